@@ -6,8 +6,9 @@ use Prim.Native.Nat.{ℕ, zero, suc, _+_, _≤_, _<_}
 use native.Mathlib.Nat.{add-zero, add-suc}
 use native.Mathlib.Numerals.{add-one}
 use native.Mathlib.Omega.{arith}
-use borrow.Author.Tests.{not-true, not-false}
-use Rattle.sets.specs.Below.{all, any, first, sumTo, one, count, loop}
+use borrow.Author.Tests.{not-true, not-false, eqb-true, eq-eqb}
+use lib.Dec.{eqb}
+use Rattle.sets.specs.Below.{all, any, first, sumTo, one, count, loop, replace}
 use Rattle.sets.proofs.Tests.{clash, bool, case, is-false, iff, and-l, and-r, and-in, and-false, or-l, or-r, or-case, below}
 
 -- all
@@ -197,3 +198,13 @@ loop-none f a = refl
 pub loop-more : {A : Type 0} (m : ℕ) (f : ℕ → A → A) (a : A) → loop (m + 1) f a ≡ f m (loop m f a)
 unfolding loop
 loop-more m f a = rw add-one
+
+-- replaced entries
+
+pub replace-same : (d v : ℕ) (f : ℕ → ℕ) → replace d v f d ≡ v
+unfolding replace
+replace-same d v f = rw (eq-eqb d d refl, replace) refl
+
+pub replace-other : (d v : ℕ) (f : ℕ → ℕ) (j : ℕ) → (j ≡ d → ⊥) → replace d v f j ≡ f j
+unfolding replace
+replace-other d v f j h = rw (is-false (eqb j d) (λ e. h (eqb-true j d e)), replace) refl

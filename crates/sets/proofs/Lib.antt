@@ -1,3 +1,4 @@
 pub mod Tests
 pub mod Below
 pub mod Sets
+pub mod Pigeon

@@ -2,6 +2,7 @@
 -- clause.
 use mathlib.Core.Bool.{Bool, true, false, _&&_, _||_}
 use Prim.Native.Nat.{ℕ, zero, suc, _+_}
+use lib.Dec.{eqb}
 
 -- the test holds at each number below m
 unfoldable pub all : ℕ → (ℕ → Bool) → Bool
@@ -36,3 +37,7 @@ count (suc m) p = one (p m) + count m p
 unfoldable pub loop : {A : Type 0} → ℕ → (ℕ → A → A) → A → A
 loop zero f a = a
 loop (suc m) f a = f m (loop m f a)
+
+-- f, with v at d
+unfoldable pub replace : ℕ → ℕ → (ℕ → ℕ) → ℕ → ℕ
+replace d v f j = elim (eqb j d) [ true ↦ v | false ↦ f j ]

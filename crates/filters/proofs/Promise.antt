@@ -1,0 +1,89 @@
+-- Cliques as sets, and filters that leave the greatest set with a property: such a filter keeps its promise, and two of them agree,
+-- whatever the order of their strikes.
+use mathlib.Core.Path.{_≡_, refl, sym, ap, subst, _∙_, fun-ext}
+use mathlib.Core.Bool.{true, _&&_}
+use Prim.Native.Nat.{ℕ, _≤_, _<_}
+use lib.Dec.{eqb, ltb, leb}
+use borrow.Author.Tests.{eqb-true, eq-eqb, ltb-true, lt-ltb, leb-true, le-leb}
+use Rattle.sets.specs.Sets.{Set, _⊆_}
+use Rattle.sets.proofs.Tests.{and-l, and-r, and-in, iff}
+use Rattle.filters.specs.Graph.{Graph, At, isOpen, Clique}
+use Rattle.filters.specs.Promise.{Filter, Refines, Promise}
+use Rattle.filters.proofs.Graph.{open-mono, open-in, some-in}
+
+module _ (G : Graph) where
+  open Graph G using (n, k, cls, adj)
+
+  pub clique-move : (d : ℕ) (L M : Set) (c : ℕ → ℕ) → Clique G d L c → ((j : ℕ) → d ≤ j → j < k → M (c j) ≡ true) → Clique G d M c
+  clique-move d L M c p f = record {
+    at = λ j a b. record { lt = p .at j a b .lt; live = f j a b; cl = p .at j a b .cl };
+    joined = p .joined;
+  }
+
+  pub clique-sub : (d : ℕ) (L M : Set) (c : ℕ → ℕ) → L ⊆ M → Clique G d L c → Clique G d M c
+  clique-sub d L M c s p = clique-move d L M c p (λ j a b. s (c j) (p .at j a b .live))
+
+  -- the clique as a set
+  unfoldable pub cliqueSet : ℕ → (ℕ → ℕ) → Set
+  cliqueSet d c v = eqb (c (cls v)) v && (leb d (cls v) && ltb (cls v) k)
+
+  pub set-is : (d : ℕ) (c : ℕ → ℕ) (v : ℕ) → cliqueSet d c v ≡ true → (c (cls v) ≡ v) × (d ≤ cls v) × (cls v < k)
+  unfolding cliqueSet
+  set-is d c v h =
+      let r = and-r (eqb (c (cls v)) v) _ h in (
+        eqb-true _ _ (and-l (eqb (c (cls v)) v) _ h),
+        leb-true _ _ (and-l (leb d (cls v)) _ r),
+        ltb-true _ _ (and-r (leb d (cls v)) _ r),
+      )
+
+  pub set-in : (d : ℕ) (c : ℕ → ℕ) (v : ℕ) → c (cls v) ≡ v → d ≤ cls v → cls v < k → cliqueSet d c v ≡ true
+  unfolding cliqueSet
+  set-in d c v a x y = and-in (eq-eqb _ _ a) (and-in (le-leb _ _ x) (lt-ltb _ _ y))
+
+  pub clique-set : (d : ℕ) (L : Set) (c : ℕ → ℕ) → Clique G d L c → Clique G d (cliqueSet d c) c
+  clique-set d L c p = clique-move d L (cliqueSet d c) c p (λ j a b.
+      let e = p .at j a b .cl in set-in d c (c j) (ap c e) (rw e a) (rw e b))
+
+  pub set-sub : (d : ℕ) (L : Set) (c : ℕ → ℕ) → Clique G d L c → cliqueSet d c ⊆ L
+  set-sub d L c p v h = let q = set-is d c v h in subst (λ x. L x ≡ true) (q .0) (p .at (cls v) (q .1) (q .2) .live)
+
+  -- a filter that leaves the greatest set with a property P, or a class empty
+  pub record Greatest (P : ℕ → Set → Type 0) (F : Filter) : Type 0 where
+    pub strikes : (d : ℕ) (L : Set) → F d L ⊆ L
+    pub keeps : (d : ℕ) (L S : Set) → isOpen G d S ≡ true → P d S → S ⊆ L → S ⊆ F d L
+    pub closed : (d : ℕ) (L : Set) → isOpen G d (F d L) ≡ true → P d (F d L)
+
+  pub greatest-mono : (P : ℕ → Set → Type 0) (F : Filter) → Greatest P F → Refines G F F
+  greatest-mono P F g d L M s o = g .keeps d M (F d L) o (g .closed d L o) (λ u h. s u (g .strikes d L u h))
+
+  pub clique-open : (d : ℕ) (L : Set) (c : ℕ → ℕ) → Clique G d L c → isOpen G d L ≡ true
+  clique-open d L c p = open-in G d L (λ j a b. some-in G j (c j) L (p .at j a b))
+
+  -- a clique's set has at most one vertex in a class
+  pub set-one : (d : ℕ) (c : ℕ → ℕ) (e v : ℕ) → At G e v (cliqueSet d c) → v ≡ c e
+  set-one d c e v x = let q = set-is d c v (x .live) in sym (q .0) ∙ ap c (x .cl)
+
+  pub set-joined : (d : ℕ) (L : Set) (c : ℕ → ℕ) → Clique G d L c → (v u : ℕ) → cliqueSet d c v ≡ true → cliqueSet d c u ≡ true → (cls u ≡ cls v → ⊥) → adj v u ≡ true
+  set-joined d L c p v u x y ne =
+      let q = set-is d c v x in let r = set-is d c u y in
+      let h = p .joined (cls v) (cls u) (q .1) (q .2) (r .1) (r .2) (λ e. ne (sym e)) in
+      subst (λ w. adj w u ≡ true) (q .0) (subst (λ w. adj (c (cls v)) w ≡ true) (r .0) h)
+
+  pub greatest-promise : (P : ℕ → Set → Type 0) (F : Filter) → Greatest P F
+      → ((d : ℕ) (L : Set) (c : ℕ → ℕ) → Clique G d L c → P d (cliqueSet d c)) → Promise G F
+  greatest-promise P F g f = record {
+    strikes = g .strikes;
+    keeps = λ d L c p. let q = clique-set d L c p in
+        clique-sub d (cliqueSet d c) (F d L) c (g .keeps d L (cliqueSet d c) (clique-open d (cliqueSet d c) c q) (f d L c p) (set-sub d L c p)) q;
+    refines = greatest-mono P F g;
+  }
+
+  -- two such filters agree, whatever the order of their strikes: open together, and then the same set
+  pub greatest-sub : (P : ℕ → Set → Type 0) (F H : Filter) → Greatest P F → Greatest P H → (d : ℕ) (L : Set) → isOpen G d (F d L) ≡ true → F d L ⊆ H d L
+  greatest-sub P F H f h d L o = h .keeps d L (F d L) o (f .closed d L o) (f .strikes d L)
+
+  pub greatest-open : (P : ℕ → Set → Type 0) (F H : Filter) → Greatest P F → Greatest P H → (d : ℕ) (L : Set) → isOpen G d (F d L) ≡ isOpen G d (H d L)
+  greatest-open P F H f h d L = iff _ _ (λ o. open-mono G d (F d L) (H d L) (greatest-sub P F H f h d L o) o) (λ o. open-mono G d (H d L) (F d L) (greatest-sub P H F h f d L o) o)
+
+  pub greatest-same : (P : ℕ → Set → Type 0) (F H : Filter) → Greatest P F → Greatest P H → (d : ℕ) (L : Set) → isOpen G d (F d L) ≡ true → F d L ≡ H d L
+  greatest-same P F H f h d L o = fun-ext (λ u. iff _ _ (greatest-sub P F H f h d L o u) (greatest-sub P H F h f d L (sym (greatest-open P F H f h d L) ∙ o) u))

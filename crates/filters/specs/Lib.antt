@@ -1,0 +1,7 @@
+pub mod Graph
+pub mod Promise
+pub mod Sweep
+pub mod Unit
+pub mod Failed
+pub mod PreFilter
+pub mod Switches

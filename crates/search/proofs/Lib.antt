@@ -1,0 +1,5 @@
+pub mod Tree
+pub mod First
+pub mod Setting
+pub mod Limit
+pub mod Listing

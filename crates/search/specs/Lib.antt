@@ -1,0 +1,5 @@
+pub mod Tree
+pub mod Setting
+pub mod Order
+pub mod Limit
+pub mod Listing
