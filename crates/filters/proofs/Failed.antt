@@ -11,11 +11,11 @@ use Rattle.sets.specs.Sets.{Set, _⊆_, _∩_, _∖_, just}
 use Rattle.sets.proofs.Tests.{clash, and-l, and-r, and-in, or-l, or-r, or-case, not-out, not-in, bool, is-false, case, below}
 use Rattle.sets.proofs.Below.{count-le, count-less}
 use Rattle.sets.proofs.Sets.{meet-l, meet-in, meet-mono, without-sub, without-ne, without-in}
-use Rattle.filters.specs.Graph.{Graph, At, two, lower, higher, isOpen}
+use Rattle.cliques.specs.Graph.{Graph, At, two, lower, higher, isOpen}
 use Rattle.filters.specs.Promise.{Promise}
 use Rattle.filters.specs.Unit.{unit}
 use Rattle.filters.specs.Failed.{State, alone, refuted, trial, tryHigher, tryClass, round, rounds, failed}
-use Rattle.filters.proofs.Graph.{Sole, Pair, at-sub, some-in, lower-at, open-in, open-out, open-mono, two-pair, pair-two, pair-which, swap}
+use Rattle.cliques.proofs.Graph.{Sole, Pair, at-sub, some-in, lower-at, open-in, open-out, open-mono, two-pair, pair-two, pair-which, swap}
 use Rattle.filters.proofs.Promise.{Greatest, greatest-mono, greatest-promise, set-one}
 use Rattle.filters.proofs.Unit.{UnitClosed, unit-greatest, clique-closed}
 

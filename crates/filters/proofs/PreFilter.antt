@@ -9,12 +9,11 @@ use Rattle.sets.specs.Sets.{Set, _⊆_}
 use Rattle.sets.proofs.Tests.{clash, bool, and-in, or-l, or-r}
 use Rattle.sets.proofs.Below.{any-in}
 use Rattle.sets.proofs.Sets.{meet-l, meet-in}
-use Rattle.sets.proofs.Pigeon.{onto}
-use Rattle.filters.specs.Graph.{Graph, isOpen, Clique, layered, Layers}
+use Rattle.cliques.specs.Graph.{Graph, isOpen, Clique, layered, Layers}
 use Rattle.filters.specs.Sweep.{near}
 use Rattle.filters.specs.PreFilter.{preTo, preFilter}
-use Rattle.filters.proofs.Graph.{open-in, some-in}
-use Rattle.filters.proofs.Promise.{clique-move, clique-open}
+use Rattle.cliques.proofs.Listing.{hits, layers-open}
+use Rattle.cliques.proofs.Graph.{clique-move, clique-open}
 
 module _ (G : Graph) (lay : ℕ → ℕ) (law : Layers G lay) where
   open Graph G using (n, k, cls, adj)
@@ -24,32 +23,21 @@ module _ (G : Graph) (lay : ℕ → ℕ) (law : Layers G lay) where
   pre-strikes zero L = λ u h. h
   pre-strikes (suc m) L = λ u h. pre-strikes m L u (meet-l (preTo G lay m L) _ u h)
 
-  -- a clique some a vertex in each layer
-  pub hits : (L : Set) (c : ℕ → ℕ) → Clique G 0 L c → (m : ℕ) → m < k → (j : ℕ) × (j < k) × (lay (c j) ≡ m)
-  hits L c p = onto k (λ j. lay (c j)) (λ j l. law .few _ (p .at j (omega arith) l .lt))
-      (λ i j a b ne. law .apart _ _ (p .joined i j (omega arith) a (omega arith) b ne))
-
   pub pre-keeps : (m : ℕ) (L : Set) (c : ℕ → ℕ) → m ≤ k → Clique G 0 L c → Clique G 0 (preTo G lay m L) c
   unfolding preTo near
   pre-keeps zero L c l p = p
   pre-keeps (suc m) L c l p =
       let q = pre-keeps m L c (omega arith) p in
-      let h = hits L c p m l in
+      let h = hits G lay law L c p m l in
       clique-move G 0 (preTo G lay m L) _ c q (λ j a b. meet-in (preTo G lay m L) _ (c j) (q .at j a b .live)
       (bool (eqb (lay (c j)) m) (λ e. or-l _ e) (λ e. or-r (eqb (lay (c j)) m)
       (any-in n _ (c (h .0)) (q .at (h .0) (omega arith) (h .1) .lt)
       (and-in (q .at (h .0) (omega arith) (h .1) .live) (and-in (eq-eqb _ _ (h .2))
       (q .joined j (h .0) a b (omega arith) (h .1) (λ i. clash (eqb (lay (c j)) m) (eq-eqb _ _ (subst (λ w. lay (c w) ≡ m) (sym i) (h .2))) e))))))))
 
-  -- where a clique is, no layer is empty
-  pub layers-open : (L : Set) (c : ℕ → ℕ) → Clique G 0 L c → isOpen (layered G lay) 0 L ≡ true
-  layers-open L c p = open-in (layered G lay) 0 L (λ m a l. let h = hits L c p m l in
-      let w = p .at (h .0) (omega arith) (h .1) in
-      some-in (layered G lay) m (c (h .0)) L (record { lt = w .lt; live = w .live; cl = h .2 }))
-
   -- where the pre-filter leaves a layer or a class empty, there is no k-clique
   pub pre-none : (L : Set) → (isOpen (layered G lay) 0 (preFilter G lay L) && isOpen G 0 (preFilter G lay L)) ≡ false
       → (c : ℕ → ℕ) → Clique G 0 L c → ⊥
   unfolding preFilter
   pre-none L e c p = let q = pre-keeps k L c (omega arith) p in
-      clash (isOpen (layered G lay) 0 (preTo G lay k L) && isOpen G 0 (preTo G lay k L)) (and-in (layers-open _ c q) (clique-open G 0 _ c q)) e
+      clash (isOpen (layered G lay) 0 (preTo G lay k L) && isOpen G 0 (preTo G lay k L)) (and-in (layers-open G lay law _ c q) (clique-open G 0 _ c q)) e

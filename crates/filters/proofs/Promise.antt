@@ -7,21 +7,12 @@ use lib.Dec.{eqb, ltb, leb}
 use borrow.Author.Tests.{eqb-true, eq-eqb, ltb-true, lt-ltb, leb-true, le-leb}
 use Rattle.sets.specs.Sets.{Set, _⊆_}
 use Rattle.sets.proofs.Tests.{and-l, and-r, and-in, iff}
-use Rattle.filters.specs.Graph.{Graph, At, isOpen, Clique}
+use Rattle.cliques.specs.Graph.{Graph, At, isOpen, Clique}
 use Rattle.filters.specs.Promise.{Filter, Refines, Promise}
-use Rattle.filters.proofs.Graph.{open-mono, open-in, some-in}
+use Rattle.cliques.proofs.Graph.{open-mono, clique-move, clique-sub, clique-open}
 
 module _ (G : Graph) where
   open Graph G using (n, k, cls, adj)
-
-  pub clique-move : (d : ℕ) (L M : Set) (c : ℕ → ℕ) → Clique G d L c → ((j : ℕ) → d ≤ j → j < k → M (c j) ≡ true) → Clique G d M c
-  clique-move d L M c p f = record {
-    at = λ j a b. record { lt = p .at j a b .lt; live = f j a b; cl = p .at j a b .cl };
-    joined = p .joined;
-  }
-
-  pub clique-sub : (d : ℕ) (L M : Set) (c : ℕ → ℕ) → L ⊆ M → Clique G d L c → Clique G d M c
-  clique-sub d L M c s p = clique-move d L M c p (λ j a b. s (c j) (p .at j a b .live))
 
   -- the clique as a set
   unfoldable pub cliqueSet : ℕ → (ℕ → ℕ) → Set
@@ -41,7 +32,7 @@ module _ (G : Graph) where
   set-in d c v a x y = and-in (eq-eqb _ _ a) (and-in (le-leb _ _ x) (lt-ltb _ _ y))
 
   pub clique-set : (d : ℕ) (L : Set) (c : ℕ → ℕ) → Clique G d L c → Clique G d (cliqueSet d c) c
-  clique-set d L c p = clique-move d L (cliqueSet d c) c p (λ j a b.
+  clique-set d L c p = clique-move G d L (cliqueSet d c) c p (λ j a b.
       let e = p .at j a b .cl in set-in d c (c j) (ap c e) (rw e a) (rw e b))
 
   pub set-sub : (d : ℕ) (L : Set) (c : ℕ → ℕ) → Clique G d L c → cliqueSet d c ⊆ L
@@ -55,9 +46,6 @@ module _ (G : Graph) where
 
   pub greatest-mono : (P : ℕ → Set → Type 0) (F : Filter) → Greatest P F → Refines G F F
   greatest-mono P F g d L M s o = g .keeps d M (F d L) o (g .closed d L o) (λ u h. s u (g .strikes d L u h))
-
-  pub clique-open : (d : ℕ) (L : Set) (c : ℕ → ℕ) → Clique G d L c → isOpen G d L ≡ true
-  clique-open d L c p = open-in G d L (λ j a b. some-in G j (c j) L (p .at j a b))
 
   -- a clique's set has at most one vertex in a class
   pub set-one : (d : ℕ) (c : ℕ → ℕ) (e v : ℕ) → At G e v (cliqueSet d c) → v ≡ c e
@@ -74,7 +62,7 @@ module _ (G : Graph) where
   greatest-promise P F g f = record {
     strikes = g .strikes;
     keeps = λ d L c p. let q = clique-set d L c p in
-        clique-sub d (cliqueSet d c) (F d L) c (g .keeps d L (cliqueSet d c) (clique-open d (cliqueSet d c) c q) (f d L c p) (set-sub d L c p)) q;
+        clique-sub G d (cliqueSet d c) (F d L) c (g .keeps d L (cliqueSet d c) (clique-open G d (cliqueSet d c) c q) (f d L c p) (set-sub d L c p)) q;
     refines = greatest-mono P F g;
   }
 

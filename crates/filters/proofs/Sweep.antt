@@ -11,10 +11,10 @@ use Rattle.sets.specs.Sets.{Set, _⊆_, _∩_}
 use Rattle.sets.proofs.Tests.{and-l, and-r, and-in, or-l, or-r, or-case, not-in, bool}
 use Rattle.sets.proofs.Below.{any-in, any-mono, all-in, all-out}
 use Rattle.sets.proofs.Sets.{meet-l, meet-in, meet-mono}
-use Rattle.filters.specs.Graph.{Graph, Clique}
+use Rattle.cliques.specs.Graph.{Graph, Clique}
 use Rattle.filters.specs.Promise.{Promise}
 use Rattle.filters.specs.Sweep.{near, reached, sweepTo, sweep}
-use Rattle.filters.proofs.Promise.{clique-move}
+use Rattle.cliques.proofs.Graph.{clique-move}
 
 module _ (G : Graph) where
   open Graph G using (n, k, cls, adj)

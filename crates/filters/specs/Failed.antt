@@ -3,7 +3,7 @@ use mathlib.Core.Bool.{Bool, true, false, not, _&&_, _||_}
 use Prim.Native.Nat.{ℕ, zero, suc}
 use lib.Dec.{eqb, ltb}
 use Rattle.sets.specs.Sets.{Set, _∩_, _∖_, just}
-use Rattle.filters.specs.Graph.{Graph, two, lower, higher, isOpen}
+use Rattle.cliques.specs.Graph.{Graph, two, lower, higher, isOpen}
 use Rattle.filters.specs.Promise.{Filter}
 use Rattle.filters.specs.Unit.{unit}
 

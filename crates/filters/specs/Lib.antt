@@ -1,4 +1,3 @@
-pub mod Graph
 pub mod Promise
 pub mod Sweep
 pub mod Unit

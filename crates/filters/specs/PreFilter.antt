@@ -3,7 +3,7 @@ use mathlib.Core.Bool.{_||_}
 use Prim.Native.Nat.{ℕ, zero, suc}
 use lib.Dec.{eqb}
 use Rattle.sets.specs.Sets.{Set, _∩_}
-use Rattle.filters.specs.Graph.{Graph, layered}
+use Rattle.cliques.specs.Graph.{Graph, layered}
 use Rattle.filters.specs.Sweep.{near}
 
 -- "for each layer in rising order, strike every vertex outside it with no live neighbour in it": the layers below m

@@ -3,7 +3,7 @@ use mathlib.Core.Path.{_≡_}
 use mathlib.Core.Bool.{true}
 use Prim.Native.Nat.{ℕ}
 use Rattle.sets.specs.Sets.{Set, _⊆_}
-use Rattle.filters.specs.Graph.{Graph, isOpen, Clique}
+use Rattle.cliques.specs.Graph.{Graph, isOpen, Clique}
 
 -- a filter takes the depth and the live set, and gives the filtered live set
 abbrev pub Filter : Type 0

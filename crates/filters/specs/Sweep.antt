@@ -4,7 +4,7 @@ use Prim.Native.Nat.{ℕ, zero, suc}
 use lib.Dec.{eqb, ltb}
 use Rattle.sets.specs.Below.{all, any}
 use Rattle.sets.specs.Sets.{Set, _∩_}
-use Rattle.filters.specs.Graph.{Graph}
+use Rattle.cliques.specs.Graph.{Graph}
 use Rattle.filters.specs.Promise.{Filter}
 
 module _ (G : Graph) where

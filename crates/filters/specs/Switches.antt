@@ -4,7 +4,7 @@ use mathlib.Core.Bool.{Bool, true, false}
 use Prim.Native.Nat.{ℕ, _/_, _%_}
 use lib.Dec.{eqb}
 use Rattle.sets.specs.Sets.{Set}
-use Rattle.filters.specs.Graph.{Graph}
+use Rattle.cliques.specs.Graph.{Graph}
 use Rattle.filters.specs.Promise.{Filter}
 use Rattle.filters.specs.Sweep.{sweep}
 use Rattle.filters.specs.Failed.{failed}

@@ -4,7 +4,7 @@ use Prim.Native.Nat.{ℕ, zero, suc}
 use lib.Dec.{eqb, ltb, leb}
 use Rattle.sets.specs.Below.{any, first}
 use Rattle.sets.specs.Sets.{Set, _∩_, _∪_, nothing, just}
-use Rattle.filters.specs.Graph.{Graph, lone, lower, isOpen}
+use Rattle.cliques.specs.Graph.{Graph, lone, lower, isOpen}
 use Rattle.filters.specs.Promise.{Filter}
 
 module _ (G : Graph) where

@@ -2,4 +2,3 @@ pub mod Tree
 pub mod First
 pub mod Setting
 pub mod Limit
-pub mod Listing

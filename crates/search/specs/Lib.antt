@@ -2,4 +2,3 @@ pub mod Tree
 pub mod Setting
 pub mod Order
 pub mod Limit
-pub mod Listing
