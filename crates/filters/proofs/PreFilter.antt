@@ -12,7 +12,7 @@ use Rattle.sets.proofs.Sets.{meet-l, meet-in}
 use Rattle.cliques.specs.Graph.{Graph, isOpen, Clique, layered, Layers}
 use Rattle.filters.specs.Sweep.{near}
 use Rattle.filters.specs.PreFilter.{preTo, preFilter}
-use Rattle.cliques.proofs.Listing.{hits, layers-open}
+use Rattle.cliques.proofs.Listing.{clique-any, hits, layers-open}
 use Rattle.cliques.proofs.Graph.{clique-move, clique-open}
 
 module _ (G : Graph) (lay : ℕ → ℕ) (law : Layers G lay) where
@@ -28,7 +28,7 @@ module _ (G : Graph) (lay : ℕ → ℕ) (law : Layers G lay) where
   pre-keeps zero L c l p = p
   pre-keeps (suc m) L c l p =
       let q = pre-keeps m L c (omega arith) p in
-      let h = hits G lay law L c p m l in
+      let h = hits G lay law L c (clique-any G L c p) m l in
       clique-move G 0 (preTo G lay m L) _ c q (λ j a b. meet-in (preTo G lay m L) _ (c j) (q .at j a b .live)
       (bool (eqb (lay (c j)) m) (λ e. or-l _ e) (λ e. or-r (eqb (lay (c j)) m)
       (any-in n _ (c (h .0)) (q .at (h .0) (omega arith) (h .1) .lt)
@@ -40,4 +40,4 @@ module _ (G : Graph) (lay : ℕ → ℕ) (law : Layers G lay) where
       → (c : ℕ → ℕ) → Clique G 0 L c → ⊥
   unfolding preFilter
   pre-none L e c p = let q = pre-keeps k L c (omega arith) p in
-      clash (isOpen (layered G lay) 0 (preTo G lay k L) && isOpen G 0 (preTo G lay k L)) (and-in (layers-open G lay law _ c q) (clique-open G 0 _ c q)) e
+      clash (isOpen (layered G lay) 0 (preTo G lay k L) && isOpen G 0 (preTo G lay k L)) (and-in (layers-open G lay law _ c (clique-any G _ c q)) (clique-open G 0 _ c q)) e

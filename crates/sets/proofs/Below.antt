@@ -126,6 +126,13 @@ any-mono m p q f h = any-in m q (first m p) (first-lt m p h) (f (first m p) (fir
 pub any-same : (m : ℕ) (p q : ℕ → Bool) → ((i : ℕ) → i < m → p i ≡ q i) → any m p ≡ any m q
 any-same m p q f = iff _ _ (any-mono m p q (λ i l t. sym (f i l) ∙ t)) (any-mono m q p (λ i l t. f i l ∙ t))
 
+pub first-same : (m : ℕ) (p q : ℕ → Bool) → ((i : ℕ) → i < m → p i ≡ q i) → first m p ≡ first m q
+first-same m p q f = bool (any m q)
+    (λ t. let l = first-lt m q t in first-found m (first m q) p l
+    (is-false (any (first m q) p) (λ u. let i = first (first m q) p in let h = first-lt (first m q) p u in
+    clash (p i) (first-is (first m q) p u) (f i (omega arith) ∙ first-least m q i h))) (f (first m q) l ∙ first-is m q t))
+    (λ t. first-none m p (any-same m p q f ∙ t) ∙ sym (first-none m q t))
+
 -- sums
 
 pub sum-none : (f : ℕ → ℕ) → sumTo 0 f ≡ 0
@@ -155,7 +162,7 @@ count-same (suc m) p q h = rw (h m (omega arith), count-same m p q (λ i l. h i 
 
 pub count-add : (a b : ℕ) (p : ℕ → Bool) → count (a + b) p ≡ count a p + count b (λ i. p (a + i))
 unfolding count
-count-add a zero p = rw (add-zero, add-zero)
+count-add a zero p = simp add-zero
 count-add a (suc b) p = rw add-suc (omega (arith, count-add a b p))
 
 pub count-le : (m : ℕ) (p : ℕ → Bool) → count m p ≤ m
@@ -198,6 +205,12 @@ loop-none f a = refl
 pub loop-more : {A : Type 0} (m : ℕ) (f : ℕ → A → A) (a : A) → loop (m + 1) f a ≡ f m (loop m f a)
 unfolding loop
 loop-more m f a = rw add-one
+
+-- what each turn keeps, the loop keeps
+pub loop-keeps : {A : Type 0} (P : A → Type 0) (m : ℕ) (f : ℕ → A → A) → ((i : ℕ) → i < m → (a : A) → P a → P (f i a)) → (a : A) → P a → P (loop m f a)
+unfolding loop
+loop-keeps P zero f h a p = p
+loop-keeps P (suc m) f h a p = h m (omega arith) (loop m f a) (loop-keeps P m f (λ i l. h i (omega arith)) a p)
 
 -- replaced entries
 

@@ -2,3 +2,4 @@ pub mod Tests
 pub mod Below
 pub mod Sets
 pub mod Pigeon
+pub mod Lists

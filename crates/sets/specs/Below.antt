@@ -1,6 +1,7 @@
 -- Tests, sums and searches over the numbers below a bound. The last number is on top, so that a loop's next turn is a definition's next
 -- clause.
 use mathlib.Core.Bool.{Bool, true, false, _&&_, _||_}
+use mathlib.Core.List.{List, [], _∷_, _++_}
 use Prim.Native.Nat.{ℕ, zero, suc, _+_}
 use lib.Dec.{eqb}
 
@@ -41,3 +42,8 @@ loop (suc m) f a = f m (loop m f a)
 -- f, with v at d
 unfoldable pub replace : ℕ → ℕ → (ℕ → ℕ) → ℕ → ℕ
 replace d v f j = elim (eqb j d) [ true ↦ v | false ↦ f j ]
+
+-- f at 0, 1, .. m - 1, as a list
+unfoldable pub tabulate : ℕ → (ℕ → ℕ) → List ℕ
+tabulate zero f = []
+tabulate (suc m) f = tabulate m f ++ (f m ∷ [])
