@@ -57,7 +57,7 @@ module _ (G : Graph) where
       (λ u h. h)) o′
 
   -- a failed vertex of a pair is in no closed part
-  refuted-out : (d c a b : ℕ) (L S : Set) → d ≤ c → c < k → Pair G c a b L → refuted G d a L ≡ true
+  pub refuted-out : (d c a b : ℕ) (L S : Set) → d ≤ c → c < k → Pair G c a b L → refuted G d a L ≡ true
       → isOpen G d S ≡ true → Closed d S → S ⊆ L → S ⊆ (L ∖ just a)
   unfolding refuted
   refuted-out d c a b L S l r p f o z s u h = without-in a L u (s u h) (λ e. clash (isOpen G d (unit G d (alone G a L)))

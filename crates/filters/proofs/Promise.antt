@@ -1,12 +1,12 @@
 -- Cliques as sets, and filters that leave the greatest set with a property: such a filter keeps its promise, and two of them agree,
 -- whatever the order of their strikes.
 use mathlib.Core.Path.{_≡_, refl, sym, ap, subst, _∙_, fun-ext}
-use mathlib.Core.Bool.{true, _&&_}
+use mathlib.Core.Bool.{true, false, _&&_}
 use Prim.Native.Nat.{ℕ, _≤_, _<_}
 use lib.Dec.{eqb, ltb, leb}
 use borrow.Author.Tests.{eqb-true, eq-eqb, ltb-true, lt-ltb, leb-true, le-leb}
 use Rattle.sets.specs.Sets.{Set, _⊆_}
-use Rattle.sets.proofs.Tests.{and-l, and-r, and-in, iff}
+use Rattle.sets.proofs.Tests.{clash, is-false, and-l, and-r, and-in, iff}
 use Rattle.cliques.specs.Graph.{Graph, At, isOpen, Clique}
 use Rattle.filters.specs.Promise.{Filter, Refines, Promise}
 use Rattle.cliques.proofs.Graph.{open-mono, clique-move, clique-sub, clique-open}
@@ -75,3 +75,24 @@ module _ (G : Graph) where
 
   pub greatest-same : (P : ℕ → Set → Type 0) (F H : Filter) → Greatest P F → Greatest P H → (d : ℕ) (L : Set) → isOpen G d (F d L) ≡ true → F d L ≡ H d L
   greatest-same P F H f h d L o = fun-ext (λ u. iff _ _ (greatest-sub P F H f h d L o u) (greatest-sub P H F h f d L (sym (greatest-open P F H f h d L) ∙ o) u))
+
+  -- L is on the way from L₀ to the greatest set with P: it lacks no vertex of a part that has P and no empty class
+  pub record OnTheWay (P : ℕ → Set → Type 0) (d : ℕ) (L₀ L : Set) : Type 0 where
+    pub strikes : L ⊆ L₀
+    pub keeps : (S : Set) → isOpen G d S ≡ true → P d S → S ⊆ L₀ → S ⊆ L
+
+  pub way-start : (P : ℕ → Set → Type 0) (d : ℕ) (L : Set) → OnTheWay P d L L
+  way-start P d L = record { strikes = λ v h. h; keeps = λ S o p s. s }
+
+  pub way-on : (P : ℕ → Set → Type 0) (d : ℕ) (L M N : Set) → OnTheWay P d L M → OnTheWay P d M N → OnTheWay P d L N
+  way-on P d L M N a b = record { strikes = λ v h. a .strikes v (b .strikes v h); keeps = λ S o p s. b .keeps S o p (a .keeps S o p s) }
+
+  -- it arrives where it has P and no empty class; and where it has an empty class, so has the greatest set
+  pub way-ends : (P : ℕ → Set → Type 0) (F : Filter) → Greatest P F → (d : ℕ) (L₀ L : Set) → OnTheWay P d L₀ L → isOpen G d L ≡ true → P d L → F d L₀ ≡ L
+  way-ends P F g d L₀ L w o p =
+      let sub = g .keeps d L₀ L o p (w .strikes) in
+      let o₂ = open-mono G d L (F d L₀) sub o in
+      fun-ext (λ v. iff _ _ (w .keeps (F d L₀) o₂ (g .closed d L₀ o₂) (g .strikes d L₀) v) (sub v))
+
+  pub way-shut : (P : ℕ → Set → Type 0) (F : Filter) → Greatest P F → (d : ℕ) (L₀ L : Set) → OnTheWay P d L₀ L → isOpen G d L ≡ false → isOpen G d (F d L₀) ≡ false
+  way-shut P F g d L₀ L w e = is-false _ (λ o. clash (isOpen G d L) (open-mono G d (F d L₀) L (w .keeps (F d L₀) o (g .closed d L₀ o) (g .strikes d L₀)) o) e)

@@ -24,7 +24,7 @@ module _ (G : Graph) where
   abbrev pub UnitClosed : ℕ → Set → Type 0
   UnitClosed d S = (c v : ℕ) → d ≤ c → c < k → Sole G c v S → (u : ℕ) → S u ≡ true → d ≤ cls u → (cls u ≡ c → ⊥) → adj v u ≡ true
 
-  stays-out : (d c v u : ℕ) → stays G d c v u ≡ true → d ≤ cls u → (cls u ≡ c → ⊥) → adj v u ≡ true
+  pub stays-out : (d c v u : ℕ) → stays G d c v u ≡ true → d ≤ cls u → (cls u ≡ c → ⊥) → adj v u ≡ true
   unfolding stays
   stays-out d c v u h l e = go (or-case (adj v u) _ h)
     where
@@ -36,7 +36,7 @@ module _ (G : Graph) where
       go (inl x) = x
       go (inr x) = go₂ (or-case (eqb (cls u) c) _ x)
 
-  stays-in : (d c v u : ℕ) → (d ≤ cls u → (cls u ≡ c → ⊥) → adj v u ≡ true) → stays G d c v u ≡ true
+  pub stays-in : (d c v u : ℕ) → (d ≤ cls u → (cls u ≡ c → ⊥) → adj v u ≡ true) → stays G d c v u ≡ true
   unfolding stays
   stays-in d c v u f = bool (eqb (cls u) c) (λ x. or-r (adj v u) (or-l _ x)) (λ x.
       bool (ltb (cls u) d) (λ y. or-r (adj v u) (or-r (eqb (cls u) c) y)) (λ y.
@@ -50,7 +50,7 @@ module _ (G : Graph) where
   unfolding due
   due-in d t L c a b e = and-in (le-leb d c a) (and-in b (not-in e))
 
-  -- the steps G only strike
+  -- the steps only strike
   steps-strikes : (f d : ℕ) (t L : Set) → steps G f d t L ⊆ L
   unfolding steps strike
   steps-strikes zero d t L = λ u h. h
@@ -58,7 +58,7 @@ module _ (G : Graph) where
       (λ a u h. meet-l L _ u (steps-strikes f d _ _ u h)) (λ e u h. h)) (λ e u h. h)
 
   -- a step keeps each unit-closed part
-  strike-keeps : (d c : ℕ) (L S : Set) → isOpen G d S ≡ true → UnitClosed d S → S ⊆ L → d ≤ c → c < k → lone G c L ≡ true → S ⊆ strike G d c L
+  pub strike-keeps : (d c : ℕ) (L S : Set) → isOpen G d S ≡ true → UnitClosed d S → S ⊆ L → d ≤ c → c < k → lone G c L ≡ true → S ⊆ strike G d c L
   unfolding strike
   strike-keeps d c L S o z s a b l u h = meet-in L _ u (s u h)
       (stays-in d c _ u (z c _ a b (sole-sub G S L s (open-out G d S o c a b) (lone-sole G c L l)) u h))
@@ -118,6 +118,14 @@ module _ (G : Graph) where
       steps-closed f d _ _ (fewer d t L f _ (first-lt k (due G d t L) a) (q .2) m) (step-taken d _ t L (q .1) z))
       (λ e _. taken-closed d t L z (λ c a b l. bool (t c) (λ x. x) (λ x. absurd (any-no k (due G d t L) e c b (due-in d t L c a l x))))))
       (λ e o. clash (isOpen G d L) o e)
+
+  -- a set where no class with one live vertex strikes a vertex is unit-closed
+  pub settled-closed : (d : ℕ) (L : Set) → ((c : ℕ) → d ≤ c → c < k → lone G c L ≡ true → L ⊆ strike G d c L) → UnitClosed d L
+  unfolding strike
+  settled-closed d L f c v a b s u h l ne =
+      let o = sole-lone G c v L s in
+      let e = lone-sole G c L o .only v (s .at) in
+      rw e (stays-out d c (lower G c L) u (meet-r L (stays G d c (lower G c L)) u (f c a b o u h)) l ne)
 
   pub unit-greatest : Greatest G UnitClosed (unit G)
   unfolding unit nothing
