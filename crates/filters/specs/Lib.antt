@@ -1,4 +1,5 @@
 pub mod Promise
+pub mod Filtered
 pub mod Sweep
 pub mod Unit
 pub mod Failed

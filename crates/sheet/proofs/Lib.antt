@@ -1,0 +1,5 @@
+pub mod Causes
+pub mod Parts
+pub mod Links
+pub mod Rules
+pub mod Accepted

@@ -1,0 +1,115 @@
+-- What each test has shown is said once, and holds at every later place.
+use borrow.Author.Needs.{needs}
+use denote.Ref.{now}
+use mathlib.Core.Path.{_∙_, _≡_, sym}
+use mathlib.Core.Bool.{true}
+use borrow.Author.Tests.{not-false, not-true}
+use native.Mathlib.Omega.{arith}
+use Rattle.sheet.specs.Refusal.{countsOk, formOk, linkCountOk, offsetsOk, refusal}
+use Rattle.sheet.proofs.Accepted.{Head, form-long, head-is}
+use Rattle.sheet.proofs.check_sheet.Statement.{statement}
+use Rattle.sheet.proofs.check_sheet.Tie as tie
+
+form-fine : (c : tie.Else1) → formOk (now (c .before .before .before .args .s)) ≡ true
+form-fine c = sym (c .before .form-ok .ensures) ∙ not-false (c .before .form-ok .result) (c .if1 .left)
+
+links-fine : (c : tie.Else2) → linkCountOk (now (c .before .before .before .before .before .args .s)) ≡ true
+links-fine c = sym (c .before .link-count-ok .ensures) ∙ not-false (c .before .link-count-ok .result) (c .if2 .left)
+
+counts-fine : (c : tie.Else3) → countsOk (now (c .before .before .before .before .before .before .before .args .s)) ≡ true
+counts-fine c = sym (c .before .counts-ok .ensures) ∙ not-false (c .before .counts-ok .result) (c .if3 .left)
+
+offsets-fine : (c : tie.Else4) → offsetsOk (now (c .before .before .before .before .before .before .before .before .before .args .s)) ≡ true
+offsets-fine c = sym (c .before .offsets-ok .ensures) ∙ not-false (c .before .offsets-ok .result) (c .if4 .left)
+
+head : (c : tie.Else4) → Head (now (c .before .before .before .before .before .before .before .before .before .args .s))
+head c = head-is _ (form-fine (c .before .before .before .before .before .before)) (links-fine (c .before .before .before .before)) (counts-fine (c .before .before)) (offsets-fine c)
+
+returns : tie.Need-returns
+unfolding refusal
+returns c = rw (sym (c .before .form-ok .ensures) ∙ not-true (c .before .form-ok .result) (c .if1 .taken))
+
+link-count-ok-requires : tie.Need-link-count-ok-requires
+link-count-ok-requires c κs = form-long _ (form-fine c)
+
+returns-2 : tie.Need-returns-2
+unfolding refusal
+returns-2 c =
+    rw (form-fine (c .before .before), sym (c .before .link-count-ok .ensures) ∙ not-true (c .before .link-count-ok .result) (c .if2 .taken))
+
+counts-ok-requires : tie.Need-counts-ok-requires
+counts-ok-requires c κs = form-long _ (form-fine (c .before .before))
+
+returns-3 : tie.Need-returns-3
+unfolding refusal
+returns-3 c =
+    rw (
+      form-fine (c .before .before .before .before),
+      links-fine (c .before .before),
+      sym (c .before .counts-ok .ensures) ∙ not-true (c .before .counts-ok .result) (c .if3 .taken),
+    )
+
+offsets-ok-requires : tie.Need-offsets-ok-requires
+offsets-ok-requires c κs = form-long _ (form-fine (c .before .before .before .before))
+
+returns-4 : tie.Need-returns-4
+unfolding refusal
+returns-4 c =
+    rw (
+      form-fine (c .before .before .before .before .before .before),
+      links-fine (c .before .before .before .before),
+      counts-fine (c .before .before),
+      sym (c .before .offsets-ok .ensures) ∙ not-true (c .before .offsets-ok .result) (c .if4 .taken),
+    )
+
+word-requires : tie.Need-word-requires
+word-requires c κs = omega (arith, head c)
+
+word-requires-2 : tie.Need-word-requires-2
+word-requires-2 c κs = omega (arith, head (c .before))
+
+word-requires-3 : tie.Need-word-requires-3
+word-requires-3 c κs = omega (arith, head (c .before .before))
+
+word-requires-4 : tie.Need-word-requires-4
+word-requires-4 c κs = omega (arith, head (c .before .before .before))
+
+sections-requires : tie.Need-sections-requires
+sections-requires c κs =
+    let h = head (c .before .before .before .before) in
+    rw (c .before .before .before .word .ensures .0, c .before .before .word2 .ensures .0, c .before .word3 .ensures .0, c .word4 .ensures .0)
+    (h .k-small, h .n-small, h .q-small, h .t-small, h .whole)
+
+returns-5 : tie.Need-returns-5
+unfolding refusal
+returns-5 c =
+    rw (
+      form-fine (c .before .before .before .before .before .before .before .before .before .before .before),
+      links-fine (c .before .before .before .before .before .before .before .before .before),
+      counts-fine (c .before .before .before .before .before .before .before),
+      offsets-fine (c .before .before .before .before .before),
+      ← c .before .before .before .before .word .ensures .0,
+      ← c .before .before .before .word2 .ensures .0,
+      ← c .before .before .word3 .ensures .0,
+      ← c .before .word4 .ensures .0,
+    )
+    (c .sections .ensures)
+
+pub check-sheet-spec : {M : Type 1} → statement M
+check-sheet-spec =
+    tie.close
+    (tie.spec
+    (λ c κs. search needs)
+    returns
+    link-count-ok-requires
+    returns-2
+    counts-ok-requires
+    returns-3
+    offsets-ok-requires
+    returns-4
+    word-requires
+    word-requires-2
+    word-requires-3
+    word-requires-4
+    sections-requires
+    returns-5)

@@ -1,0 +1,88 @@
+-- The loop's invariant: the rows so far are right, and `sum` is the sum of their counts. A row that `link_row` hands on is right.
+use borrow.Author.Needs.{needs}
+use denote.Ref.{now}
+use Prim.Native.Nat.{_*_, _+_, _-_, _<_, _≤_}
+use mathlib.Core.Path.{_∙_, _≡_, sym}
+use mathlib.Core.Bool.{false, true}
+use borrow.Author.Tests.{eq-eqb, ne-eqb}
+use native.Mathlib.Omega.{arith}
+use Rattle.sets.specs.Below.{all, sumTo}
+use Rattle.sets.proofs.Tests.{and-in}
+use Rattle.sets.proofs.Below.{all-none, all-step, sum-more, sum-none}
+use Rattle.sheet.specs.Sheet.{linkCount, linkOk}
+use Rattle.sheet.proofs.Causes.{unless-false, unless-true}
+use Rattle.sheet.proofs.Links.{links-are, links-false, row-bad, row-link}
+use Rattle.sheet.proofs.link_rows.links.Statement.{statement}
+use Rattle.sheet.proofs.link_rows.links.Tie as tie
+
+abbrev Inv-loop : tie.InvT-loop
+Inv-loop p k n sum₀ l₀ sum l = (l ≤ k) × (all l (linkOk p) ≡ true) × (sum ≡ sumTo l (linkCount p)) × (sum ≤ 65535 * l)
+
+abbrev μ-loop : tie.MeasureT-loop
+μ-loop p k n sum₀ l₀ sum l = k - l
+
+loop-holds : tie.Need-loop-holds Inv-loop μ-loop
+loop-holds c = (search needs, all-none _, sym (sum-none _), search needs)
+
+returns : tie.Need-returns Inv-loop μ-loop
+returns c =
+    let a = c .before .before .before .before .before .before .args in
+    let v = c .before .before .before .before .loop in
+    let e = sym (c .before .before .link-row .ensures) ∙ c .enum-told .given .1 in
+    unless-false _ 5 (links-false (now (a .p)) (a .k) (a .n) (v .l) (omega arith) (row-bad (now (a .p)) (v .l) (v .sum) (v .inv .2) e))
+
+-- what the row that was read tells: it is right, and its count is as the sheet has it, and below 2^16
+told : (c : tie.After-known-told Inv-loop μ-loop) →
+    let p = now (c .before .before .before .before .before .before .before .args .p) in
+    let l = c .before .before .before .before .before .loop .l in
+    (linkOk p l ≡ true) × (linkCount p l ≡ c .before .first .given .0 .1 .0) × (linkCount p l < 65536)
+told c =
+    let a = c .before .before .before .before .before .before .before .args in
+    let v = c .before .before .before .before .before .loop in
+    let known = c .before .before .before .before .before .before .shared-slice-known .given in
+    let r = row-link (now (a .p)) (v .l) (v .sum) _ _ (v .inv .2) (sym (c .before .before .before .link-row .ensures) ∙ c .before .first .given .1) in
+    (r .0, r .1, omega (arith, known (4 * v .l + 2), known (4 * v .l + 2 + 1)))
+
+add-sum : tie.Need-add-sum Inv-loop μ-loop
+add-sum c = omega (arith, told c)
+
+loop-again : tie.Need-loop-again Inv-loop μ-loop
+loop-again c =
+    let a = c .before .before .before .before .before .before .before .args in
+    let v = c .before .before .before .before .before .loop in
+    let r = told c in (
+      omega arith,
+      rw all-step (and-in (v .inv .1) (r .0)),
+      omega (arith, sum-more (v .l) (linkCount (now (a .p)))),
+      omega arith,
+    )
+
+returns-2 : tie.Need-returns-2 Inv-loop μ-loop
+returns-2 c =
+    let a = c .before .before .before .before .args in
+    let v = c .before .before .loop in
+    unless-true _ 5 (links-are (now (a .p)) (a .k) (a .n) (v .l) (v .sum) true (omega arith) (v .inv .1) (v .inv .2) (eq-eqb _ _ (c .if1 .taken)))
+
+returns-3 : tie.Need-returns-3 Inv-loop μ-loop
+returns-3 c =
+    let a = c .before .before .before .before .args in
+    let v = c .before .before .loop in
+    unless-false _ 5 (links-are (now (a .p)) (a .k) (a .n) (v .l) (v .sum) false (omega arith) (v .inv .1) (v .inv .2) (ne-eqb _ _ (c .if1 .left)))
+
+pub links-spec : {M : Type 1} → statement M
+links-spec =
+    tie.close
+    (tie.spec
+    Inv-loop
+    μ-loop
+    loop-holds
+    (λ c κs. search needs)
+    (λ c. search needs)
+    (λ c. search needs)
+    returns
+    add-sum
+    (λ c. search needs)
+    (λ c. search needs)
+    loop-again
+    returns-2
+    returns-3)

@@ -1,0 +1,23 @@
+-- `sheet::pair_rows::pair_rises` meets its contract.
+use borrow.Author.Needs.{needs}
+use Rattle.sheet.specs.Sheet.{pairRises}
+use Rattle.sheet.proofs.pair_rows.pair_rises.Statement.{statement}
+use Rattle.sheet.proofs.pair_rows.pair_rises.Tie as tie
+
+returns : tie.Need-returns
+unfolding pairRises
+returns c =
+    rw (← c .before .before .before .before .pair-first .ensures .0, ← c .before .before .before .pair-second .ensures .0, ← c .before .before .pair-first2 .ensures .0, ← c .before .pair-second2 .ensures .0)
+    (c .comes-before .ensures)
+
+pub pair-rises-spec : {M : Type 1} → statement M
+pair-rises-spec =
+    tie.close
+    (tie.spec
+    (λ c. search needs)
+    (λ c κs. search needs)
+    (λ c κs. search needs)
+    (λ c κs. search needs)
+    (λ c κs. search needs)
+    (λ c κs. search needs)
+    returns)

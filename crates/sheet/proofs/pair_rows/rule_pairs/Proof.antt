@@ -1,0 +1,58 @@
+-- `sheet::pair_rows::rule_pairs` meets its contract.
+use borrow.Author.Needs.{needs}
+use denote.Ref.{now}
+use Prim.Native.Nat.{_<_}
+use native.Mathlib.Omega.{arith}
+use Rattle.sets.proofs.Below.{all-none}
+use Rattle.sheet.specs.Sheet.{listed, rulePairsOk}
+use Rattle.sheet.proofs.Rules.{RuleIn, rule-in}
+use Rattle.sheet.proofs.pair_rows.rule_pairs.Statement.{statement}
+use Rattle.sheet.proofs.pair_rows.rule_pairs.Tie as tie
+
+returns : tie.Need-returns
+unfolding rulePairsOk
+returns c = rw (← c .before .listed .ensures .0, c .if1 .taken, all-none)
+
+-- what the accepted rule section says of the row
+row-in : (c : tie.Else1) → let a = c .before .before .before .before .before .args in RuleIn (now (a .rs)) (a .k) (a .t) (a .j)
+row-in c = let a = c .before .before .before .before .before .args in rule-in (now (a .rs)) (a .k) (a .q) (a .t) (a .j) (c .before .before .before .before .before .pre .6) (c .before .before .before .before .before .pre .0)
+
+link-count-requires : tie.Need-link-count-requires
+link-count-requires c κs = let f = row-in (c .before .before .before) in omega arith
+
+link-count-requires-2 : tie.Need-link-count-requires-2
+link-count-requires-2 c κs = let f = row-in (c .before .before .before .before) in omega arith
+
+pairs-rise-requires : tie.Need-pairs-rise-requires
+pairs-rise-requires c κs =
+    let a = c .before .before .before .before .before .before .before .before .before .before .args in
+    let f = row-in (c .before .before .before .before .before) in
+    let o : 0 < listed (now (a .rs)) (a .j) = omega arith in
+    omega (arith, f .pairs o)
+
+returns-2 : tie.Need-returns-2
+unfolding rulePairsOk
+returns-2 c =
+    rw (
+      ← c .before .before .before .before .before .before .before .listed .ensures .0,
+      ← c .before .before .before .before .before .rule-a .ensures .0,
+      ← c .before .before .before .before .rule-b .ensures .0,
+      ← c .before .before .before .rule-value .ensures .0,
+      ← c .before .before .link-count .ensures .0,
+      ← c .before .link-count2 .ensures .0,
+    )
+    (c .pairs-rise .ensures)
+
+pub rule-pairs-spec : {M : Type 1} → statement M
+rule-pairs-spec =
+    tie.close
+    (tie.spec
+    (λ c κs. search needs)
+    returns
+    (λ c κs. search needs)
+    (λ c κs. search needs)
+    (λ c κs. search needs)
+    link-count-requires
+    link-count-requires-2
+    pairs-rise-requires
+    returns-2)

@@ -1,0 +1,29 @@
+-- `sheet::rule_rows::rule_rises` meets its contract.
+use borrow.Author.Needs.{needs}
+use borrow.Author.Tests.{ne-eqb}
+use Rattle.sheet.specs.Sheet.{ruleRises}
+use Rattle.sheet.proofs.rule_rows.rule_rises.Statement.{statement}
+use Rattle.sheet.proofs.rule_rows.rule_rises.Tie as tie
+
+returns : tie.Need-returns
+unfolding ruleRises
+returns c = rw (c .if1 .taken)
+
+returns-2 : tie.Need-returns-2
+unfolding ruleRises
+returns-2 c =
+    rw (ne-eqb _ _ (c .before .before .before .before .before .if1 .left))
+    (rw (← c .before .before .before .before .rule-a .ensures .0, ← c .before .before .before .rule-b .ensures .0, ← c .before .before .rule-a2 .ensures .0, ← c .before .rule-b2 .ensures .0) (c .comes-before .ensures))
+
+pub rule-rises-spec : {M : Type 1} → statement M
+rule-rises-spec =
+    tie.close
+    (tie.spec
+    returns
+    (λ c. search needs)
+    (λ c κs. search needs)
+    (λ c κs. search needs)
+    (λ c κs. search needs)
+    (λ c κs. search needs)
+    (λ c κs. search needs)
+    returns-2)

@@ -1,0 +1,212 @@
+-- The job sheet, as a list of bytes: its limits, its header, where its sections begin, and what each row has to say.
+-- A section is the list that begins at its offset; rows are numbered from 0 within it.
+use Prim.Native.Nat.{ℕ, _+_, _-_, _*_}
+use mathlib.Core.List.{List}
+use mathlib.Core.Bool.{Bool, true, false, cond, _&&_, _||_}
+use lib.ListN.{drop}
+use lib.Dec.{ltb, leb, eqb}
+use Rattle.sets.specs.Below.{all, sumTo}
+use Rattle.wire.specs.Fields.{le16, le32}
+use Rattle.sheet.specs.declared.Row.{Row}
+use Rattle.sheet.specs.declared.Row.the-variants.{Link, Bad}
+
+-- "k is 1 to 64, n 1 to 512, q at most 2,016, t at most 8,192"
+abbrev pub mostLinks : ℕ
+mostLinks = 64
+
+abbrev pub mostFreqs : ℕ
+mostFreqs = 512
+
+abbrev pub mostRules : ℕ
+mostRules = 2016
+
+abbrev pub mostPairs : ℕ
+mostPairs = 8192
+
+-- "kHz, 1 to 9,999,999", and of a rule "value 1 to 9,999,999"
+abbrev pub mostKHz : ℕ
+mostKHz = 9999999
+
+-- "The header has ten 32-bit fields"
+abbrev pub headerBytes : ℕ
+headerBytes = 40
+
+-- "Link row: 16-bit first frequency, 16-bit count"
+abbrev pub linkBytes : ℕ
+linkBytes = 4
+
+-- "Frequency: 32 bits"
+abbrev pub freqBytes : ℕ
+freqBytes = 4
+
+-- "Rule row: 16-bit links a and b .., 16-bit kind, 16-bit count, 32-bit value"
+abbrev pub ruleBytes : ℕ
+ruleBytes = 12
+
+-- "Pair row: 16-bit positions"
+abbrev pub pairBytes : ℕ
+pairBytes = 4
+
+-- the header: "form (1), links k, frequencies n, rules q, pairs t", then offsets and length
+abbrev pub kOf : List ℕ → ℕ
+kOf s = le32 s 4
+
+abbrev pub nOf : List ℕ → ℕ
+nOf s = le32 s 8
+
+abbrev pub qOf : List ℕ → ℕ
+qOf s = le32 s 12
+
+abbrev pub tOf : List ℕ → ℕ
+tOf s = le32 s 16
+
+-- "the offsets are 40, 40 + 4k, that + 4n, that + 12q, and the length is that + 4t"
+abbrev pub freqsAt : ℕ → ℕ
+freqsAt k = headerBytes + linkBytes * k
+
+abbrev pub rulesAt : ℕ → ℕ → ℕ
+rulesAt k n = freqsAt k + freqBytes * n
+
+abbrev pub pairsAt : ℕ → ℕ → ℕ → ℕ
+pairsAt k n q = rulesAt k n + ruleBytes * q
+
+abbrev pub endAt : ℕ → ℕ → ℕ → ℕ → ℕ
+endAt k n q t = pairsAt k n q + pairBytes * t
+
+-- "Each section is read as the part of the sheet that begins at its offset"
+abbrev pub linkPart : List ℕ → List ℕ
+linkPart s = drop headerBytes s
+
+abbrev pub freqPart : List ℕ → List ℕ
+freqPart s = drop (freqsAt (kOf s)) s
+
+abbrev pub rulePart : List ℕ → List ℕ
+rulePart s = drop (rulesAt (kOf s) (nOf s)) s
+
+abbrev pub pairPart : List ℕ → List ℕ
+pairPart s = drop (pairsAt (kOf s) (nOf s) (qOf s)) s
+
+-- link rows
+
+abbrev pub linkFirst : List ℕ → ℕ → ℕ
+linkFirst p l = le16 p (linkBytes * l)
+
+abbrev pub linkCount : List ℕ → ℕ → ℕ
+linkCount p l = le16 p (linkBytes * l + 2)
+
+-- "First is the sum of earlier counts; count is at least 1", where `sum` is that sum
+abbrev pub linkRowOk : List ℕ → ℕ → ℕ → Bool
+linkRowOk p l sum = eqb (linkFirst p l) sum && ltb 0 (linkCount p l)
+
+unfoldable pub linkOk : List ℕ → ℕ → Bool
+linkOk p l = linkRowOk p l (sumTo l (linkCount p))
+
+-- "all counts sum to n"
+unfoldable pub linksOk : List ℕ → ℕ → ℕ → Bool
+linksOk p k n = all k (linkOk p) && eqb (sumTo k (linkCount p)) n
+
+-- a link row as the reader hands it on: its two fields where it is right
+abbrev pub rowIf : Bool → Row → Row
+rowIf true row = row
+rowIf false row = Bad
+
+abbrev pub linkRow : List ℕ → ℕ → ℕ → Row
+linkRow p l sum = rowIf (linkRowOk p l sum) (Link (linkFirst p l) (linkCount p l))
+
+-- frequencies
+
+-- the v-th frequency of the sheet
+abbrev pub freq : List ℕ → ℕ → ℕ
+freq p v = le32 p (freqBytes * v)
+
+-- "1 to 9,999,999, strictly rising within a link": the i-th of a link whose first is at base
+unfoldable pub freqOk : List ℕ → ℕ → ℕ → Bool
+freqOk p base i = ltb 0 (freq p (base + i)) && leb (freq p (base + i)) mostKHz && (eqb i 0 || ltb (freq p (base + i - 1)) (freq p (base + i)))
+
+-- the frequencies of link l
+unfoldable pub linkFreqsOk : List ℕ → List ℕ → ℕ → Bool
+linkFreqsOk links p l = all (linkCount links l) (freqOk p (linkFirst links l))
+
+unfoldable pub freqsOk : List ℕ → List ℕ → ℕ → Bool
+freqsOk links p k = all k (linkFreqsOk links p)
+
+-- rule rows
+
+abbrev pub ruleA : List ℕ → ℕ → ℕ
+ruleA p j = le16 p (ruleBytes * j)
+
+abbrev pub ruleB : List ℕ → ℕ → ℕ
+ruleB p j = le16 p (ruleBytes * j + 2)
+
+abbrev pub ruleKind : List ℕ → ℕ → ℕ
+ruleKind p j = le16 p (ruleBytes * j + 4)
+
+abbrev pub ruleCount : List ℕ → ℕ → ℕ
+ruleCount p j = le16 p (ruleBytes * j + 6)
+
+abbrev pub ruleValue : List ℕ → ℕ → ℕ
+ruleValue p j = le32 p (ruleBytes * j + 8)
+
+-- (a, b) comes before (c, d)
+unfoldable pub before : ℕ → ℕ → ℕ → ℕ → Bool
+before a b c d = ltb a c || (eqb a c && ltb b d)
+
+-- kinds 1 and 2: "For both, count is 0 and value 1 to 9,999,999"
+unfoldable pub plainOk : ℕ → ℕ → Bool
+plainOk count value = eqb count 0 && ltb 0 value && leb value mostKHz
+
+-- "Kind 3: .. count is at least 1 and value is the sum of earlier kind 3 counts", where `sum` is that sum
+unfoldable pub kindOk : ℕ → ℕ → ℕ → ℕ → Bool
+kindOk kind count value sum = cond (eqb kind 3) (ltb 0 count && eqb value sum) ((eqb kind 1 || eqb kind 2) && plainOk count value)
+
+abbrev pub only : Bool → ℕ → ℕ
+only true n = n
+only false n = 0
+
+-- how many pairs a rule lists: the count, for kind 3 only
+unfoldable pub listed : List ℕ → ℕ → ℕ
+listed p j = only (eqb (ruleKind p j) 3) (ruleCount p j)
+
+-- "Rows rise strictly by (a, b)"
+unfoldable pub ruleRises : List ℕ → ℕ → Bool
+ruleRises p j = eqb j 0 || before (ruleA p (j - 1)) (ruleB p (j - 1)) (ruleA p j) (ruleB p j)
+
+-- "links a and b (numbered from 0, a < b < k)", the order, and what the kind asks
+unfoldable pub ruleRowOk : List ℕ → ℕ → ℕ → ℕ → Bool
+ruleRowOk p k sum j =
+    ltb (ruleA p j) (ruleB p j) && ltb (ruleB p j) k
+    && ruleRises p j
+    && kindOk (ruleKind p j) (ruleCount p j) (ruleValue p j) sum
+
+unfoldable pub ruleOk : List ℕ → ℕ → ℕ → Bool
+ruleOk p k j = ruleRowOk p k (sumTo j (listed p)) j
+
+-- "these sum to t"
+unfoldable pub rulesOk : List ℕ → ℕ → ℕ → ℕ → Bool
+rulesOk p k q t = all q (ruleOk p k) && eqb (sumTo q (listed p)) t
+
+-- pair rows
+
+abbrev pub pairFirst : List ℕ → ℕ → ℕ
+pairFirst p i = le16 p (pairBytes * i)
+
+abbrev pub pairSecond : List ℕ → ℕ → ℕ
+pairSecond p i = le16 p (pairBytes * i + 2)
+
+-- row i comes after the row before it
+unfoldable pub pairRises : List ℕ → ℕ → Bool
+pairRises p i = before (pairFirst p (i - 1)) (pairSecond p (i - 1)) (pairFirst p i) (pairSecond p i)
+
+-- "positions (from 0) in the lists of a and of b, strictly rising by (first, second) within a rule": the i-th pair of a rule whose
+-- pairs start at base, between links of m and n frequencies
+unfoldable pub pairOk : List ℕ → ℕ → ℕ → ℕ → ℕ → Bool
+pairOk p base m n i =
+    ltb (pairFirst p (base + i)) m && ltb (pairSecond p (base + i)) n
+    && (eqb i 0 || pairRises p (base + i))
+
+-- the pairs of rule j
+unfoldable pub rulePairsOk : List ℕ → List ℕ → List ℕ → ℕ → Bool
+rulePairsOk links rules p j = all (listed rules j) (pairOk p (ruleValue rules j) (linkCount links (ruleA rules j)) (linkCount links (ruleB rules j)))
+
+unfoldable pub pairsOk : List ℕ → List ℕ → List ℕ → ℕ → Bool
+pairsOk links rules p q = all q (rulePairsOk links rules p)

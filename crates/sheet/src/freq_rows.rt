@@ -1,0 +1,61 @@
+// The frequency section, cause 6.
+ghost use mathlib.Core.Path.{_≡_};
+ghost use mathlib.Core.Bool.{true};
+ghost use Prim.Native.Nat.{_+_, _*_, _≤_};
+ghost use lib.ListN.{length};
+ghost use Rattle.sets.specs.Below.{all};
+ghost use Rattle.sheet.specs.Sheet.{mostLinks, linkBytes, freqBytes, linksOk, freqOk, freqsOk};
+use crate::header::MOST_KHZ;
+use crate::rows::freq;
+use crate::rows::link_count;
+use crate::rows::link_first;
+
+// The i-th frequency of a link whose first is at base.
+fn freq_ok(p: &[u8], base: usize, i: usize) -> bool
+    requires { ⌜ 4 * (base + i) + 4 ≤ length (now p) ⌝ }
+    ensures { λ r. ⌜ r ≡ freqOk (now (p .entry)) base i ⌝ }
+{
+    let f = freq(p, base + i);
+    if f == 0 {
+        return false;
+    }
+    if f > MOST_KHZ {
+        return false;
+    }
+    if i == 0 {
+        return true;
+    }
+    freq(p, base + i - 1) < f
+}
+
+// The frequencies of one link.
+fn rising(p: &[u8], base: usize, count: usize) -> bool
+    requires { ⌜ 4 * (base + count) ≤ length (now p) ⌝ }
+    ensures { λ r. ⌜ r ≡ all count (freqOk (now (p .entry)) base) ⌝ }
+{
+    let mut i = 0;
+    while i < count {
+        if !freq_ok(p, base, i) {
+            return false;
+        }
+        i += 1;
+    }
+    true
+}
+
+// The frequency section `p`, after the link section `ls` was accepted.
+pub fn freqs(ls: &[u8], p: &[u8], k: usize, n: usize) -> bool
+    requires { ⌜ (k ≤ mostLinks) × (linkBytes * k ≤ length (now ls)) × (freqBytes * n ≤ length (now p)) × (linksOk (now ls) k n ≡ true) ⌝ }
+    ensures { λ r. ⌜ r ≡ freqsOk (now (ls .entry)) (now (p .entry)) k ⌝ }
+{
+    let mut l = 0;
+    while l < k {
+        let first = link_first(ls, l);
+        let count = link_count(ls, l);
+        if !rising(p, first, count) {
+            return false;
+        }
+        l += 1;
+    }
+    true
+}

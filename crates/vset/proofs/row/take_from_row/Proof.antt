@@ -1,0 +1,26 @@
+-- `vset::row::take_from_row` meets its contract. The part that is lent is the row.
+use borrow.Author.Needs.{needs}
+use Rattle.sets.specs.Sets.{_∖_, just}
+use Rattle.vset.proofs.Parts.{lent-row}
+use Rattle.vset.proofs.row.take_from_row.Statement.{statement}
+use Rattle.vset.proofs.row.take_from_row.Tie as tie
+
+returns : tie.Need-returns
+returns c =
+    let x = c .before .before in
+    let s = x .before .before .before in
+    let a = s .args in
+    lent-row (λ S. S ∖ just (a .v)) (a .to) (a .w) (a .part .now) _ (s .pre .0) (x .remove .kept .0) (x .remove .ensures)
+
+pub take-from-row-spec : {M : Type 1} → statement M
+take-from-row-spec =
+    tie.close
+    (tie.spec
+    (λ c. search needs)  -- add-e
+    (λ c. search needs)  -- mul-remove
+    (λ c. search needs)  -- sub-remove
+    (λ c. search needs)  -- part-remove-start
+    (λ c. search needs)  -- part-remove-end
+    (λ c κs. search needs)  -- remove-requires
+    (λ c. search needs)  -- same-length
+    returns)

@@ -1,0 +1,227 @@
+// Sets of vertices, kept in words of 64 bits. A row of words is a set: vertex v is bit v % 64 of word v / 64.
+// Here a row is a slice, of any number of words; in `row` it is a part of one slice that holds many rows.
+// The contracts cite `has` of specs/Words.antt, the set that a row keeps, and the operations on sets of the crate `sets`.
+pub mod row;
+
+ghost use mathlib.Core.Path.{_≡_};
+ghost use Prim.Native.Nat.{_*_, _^_, _<_, _≤_};
+ghost use lib.ListN.{length};
+ghost use Rattle.sets.specs.Below.{count};
+ghost use Rattle.sets.specs.Sets.{_∩_, _∪_, _∖_, just, nothing};
+ghost use Rattle.vset.specs.Words.{has, Least, Emptiness};
+
+// Whether v is in the set.
+pub fn contains(row: &[u64], v: usize) -> bool
+    requires { ⌜ v < 64 * length (now row) ⌝ }
+    ensures { λ r. ⌜ r ≡ has (now (row .entry)) v ⌝ }
+{
+    let i = v / 64;
+    let k = v % 64;
+    (row[i] >> k) % 2 == 1
+}
+
+// Adds v to the set.
+pub fn insert(row: &mut [u64], v: usize)
+    requires { ⌜ v < 64 * length (now row) ⌝ }
+    ensures { λ r. ⌜ has (now (row .exit)) ≡ has (now (row .entry)) ∪ just v ⌝ }
+{
+    let i = v / 64;
+    let k = v % 64;
+    row[i] = row[i] | (1u64 << k);
+}
+
+// Takes v out of the set.
+pub fn remove(row: &mut [u64], v: usize)
+    requires { ⌜ v < 64 * length (now row) ⌝ }
+    ensures { λ r. ⌜ has (now (row .exit)) ≡ has (now (row .entry)) ∖ just v ⌝ }
+{
+    let i = v / 64;
+    let k = v % 64;
+    row[i] = row[i] & !(1u64 << k);
+}
+
+// Keeps in dst what is also in src.
+pub fn intersect(dst: &mut [u64], src: &[u64])
+    requires { ⌜ length (now dst) ≡ length (now src) ⌝ }
+    ensures { λ r. ⌜ has (now (dst .exit)) ≡ has (now (dst .entry)) ∩ has (now (src .entry)) ⌝ }
+{
+    let mut i = 0;
+    while i < dst.len() {
+        dst[i] = dst[i] & src[i];
+        i += 1;
+    }
+}
+
+// Adds the members of src to dst.
+pub fn unite(dst: &mut [u64], src: &[u64])
+    requires { ⌜ length (now dst) ≡ length (now src) ⌝ }
+    ensures { λ r. ⌜ has (now (dst .exit)) ≡ has (now (dst .entry)) ∪ has (now (src .entry)) ⌝ }
+{
+    let mut i = 0;
+    while i < dst.len() {
+        dst[i] = dst[i] | src[i];
+        i += 1;
+    }
+}
+
+// Takes the members of src out of dst.
+pub fn take_away(dst: &mut [u64], src: &[u64])
+    requires { ⌜ length (now dst) ≡ length (now src) ⌝ }
+    ensures { λ r. ⌜ has (now (dst .exit)) ≡ has (now (dst .entry)) ∖ has (now (src .entry)) ⌝ }
+{
+    let mut i = 0;
+    while i < dst.len() {
+        dst[i] = dst[i] & !src[i];
+        i += 1;
+    }
+}
+
+// Makes dst the set src.
+pub fn copy(dst: &mut [u64], src: &[u64])
+    requires { ⌜ length (now dst) ≡ length (now src) ⌝ }
+    ensures { λ r. ⌜ has (now (dst .exit)) ≡ has (now (src .entry)) ⌝ }
+{
+    let mut i = 0;
+    while i < dst.len() {
+        dst[i] = src[i];
+        i += 1;
+    }
+}
+
+// Empties the set.
+pub fn clear(row: &mut [u64])
+    ensures { λ r. ⌜ has (now (row .exit)) ≡ nothing ⌝ }
+{
+    let mut i = 0;
+    while i < row.len() {
+        row[i] = 0;
+        i += 1;
+    }
+}
+
+// How many members the set has: the number of ones in its row.
+pub fn size(row: &[u64]) -> usize
+    requires { ⌜ 64 * length (now row) < 2 ^ 64 ⌝ }
+    ensures { λ r. ⌜ r ≡ count (64 * length (now (row .entry))) (has (now (row .entry))) ⌝ }
+{
+    let mut n: usize = 0;
+    let mut i = 0;
+    while i < row.len() {
+        n += u64::count_ones(row[i]) as usize;
+        i += 1;
+    }
+    n
+}
+
+// How many vertices are in both sets.
+pub fn size_common(a: &[u64], b: &[u64]) -> usize
+    requires { ⌜ length (now a) ≡ length (now b) ⌝ }
+    requires { ⌜ 64 * length (now a) < 2 ^ 64 ⌝ }
+    ensures { λ r. ⌜ r ≡ count (64 * length (now (a .entry))) (has (now (a .entry)) ∩ has (now (b .entry))) ⌝ }
+{
+    let mut n: usize = 0;
+    let mut i = 0;
+    while i < a.len() {
+        n += u64::count_ones(a[i] & b[i]) as usize;
+        i += 1;
+    }
+    n
+}
+
+// The least member from `from` on, or 64 times the number of words where there is none.
+pub fn next_member(row: &[u64], from: usize) -> usize
+    requires { ⌜ 64 * length (now row) < 2 ^ 64 ⌝ }
+    requires { ⌜ from ≤ 64 * length (now row) ⌝ }
+    ensures { λ r. ⌜ Least (has (now (row .entry))) from (64 * length (now (row .entry))) r ⌝ }
+{
+    let mut i = from / 64;
+    if i >= row.len() {
+        return from;
+    }
+    let k = from % 64;
+    let first = row[i] >> k;
+    if first != 0 {
+        return from + u64::trailing_zeros(first) as usize;
+    }
+    i += 1;
+    while i < row.len() {
+        let w = row[i];
+        if w != 0 {
+            return 64 * i + u64::trailing_zeros(w) as usize;
+        }
+        i += 1;
+    }
+    64 * i
+}
+
+// The least vertex from `from` on that is in both sets, or 64 times the number of words where there is none.
+pub fn next_common(a: &[u64], b: &[u64], from: usize) -> usize
+    requires { ⌜ length (now a) ≡ length (now b) ⌝ }
+    requires { ⌜ 64 * length (now a) < 2 ^ 64 ⌝ }
+    requires { ⌜ from ≤ 64 * length (now a) ⌝ }
+    ensures { λ r. ⌜ Least (has (now (a .entry)) ∩ has (now (b .entry))) from (64 * length (now (a .entry))) r ⌝ }
+{
+    let mut i = from / 64;
+    if i >= a.len() {
+        return from;
+    }
+    let k = from % 64;
+    let first = (a[i] & b[i]) >> k;
+    if first != 0 {
+        return from + u64::trailing_zeros(first) as usize;
+    }
+    i += 1;
+    while i < a.len() {
+        let w = a[i] & b[i];
+        if w != 0 {
+            return 64 * i + u64::trailing_zeros(w) as usize;
+        }
+        i += 1;
+    }
+    64 * i
+}
+
+// Whether the set is empty.
+pub fn is_empty(row: &[u64]) -> bool
+    ensures { λ r. ⌜ Emptiness (has (now (row .entry))) r ⌝ }
+{
+    let mut i = 0;
+    while i < row.len() {
+        if row[i] != 0 {
+            return false;
+        }
+        i += 1;
+    }
+    true
+}
+
+// Whether no vertex is in both sets.
+pub fn is_empty_common(a: &[u64], b: &[u64]) -> bool
+    requires { ⌜ length (now a) ≡ length (now b) ⌝ }
+    ensures { λ r. ⌜ Emptiness (has (now (a .entry)) ∩ has (now (b .entry))) r ⌝ }
+{
+    let mut i = 0;
+    while i < a.len() {
+        if a[i] & b[i] != 0 {
+            return false;
+        }
+        i += 1;
+    }
+    true
+}
+
+// Whether no vertex is in all three sets.
+pub fn is_empty_three(a: &[u64], b: &[u64], c: &[u64]) -> bool
+    requires { ⌜ length (now a) ≡ length (now b) ⌝ }
+    requires { ⌜ length (now a) ≡ length (now c) ⌝ }
+    ensures { λ r. ⌜ Emptiness (has (now (a .entry)) ∩ has (now (b .entry)) ∩ has (now (c .entry))) r ⌝ }
+{
+    let mut i = 0;
+    while i < a.len() {
+        if a[i] & b[i] & c[i] != 0 {
+            return false;
+        }
+        i += 1;
+    }
+    true
+}
