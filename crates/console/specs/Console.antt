@@ -1,0 +1,31 @@
+-- The console's calls: "planning and checking with numbers and byte slices, cells as bytes, four a cell, little-endian".
+use mathlib.Core.List.{List}
+use Prim.Native.Nat.{ℕ, _+_, _*_, _/_, _%_, _^_}
+use lib.ListN.{length, getD}
+use Rattle.sets.specs.Below.{tabulate}
+use Rattle.wire.specs.Fields.{le32}
+use Rattle.rules.specs.Plans.{checked}
+use Rattle.planner.specs.Outcome.{Outcome, outcome, workWords}
+
+-- "one 64-bit number: the nodes plus 2^32 times the refusal number, or times 100 for found, 101 for no plan, 102 for stopped"
+unfoldable pub consoleNumber : Outcome → ℕ
+consoleNumber o = o .nodes + 2 ^ 32 * o .answer
+
+-- byte i of cells, and 0 past them: "Planning zeroes a remainder of up to three bytes"
+unfoldable pub cellByte : List ℕ → ℕ → ℕ
+cellByte cells i = getD cells (i / 4) 0 / 256 ^ (i % 4) % 256
+
+unfoldable pub cellBytes : List ℕ → ℕ → List ℕ
+cellBytes cells room = tabulate room (cellByte cells)
+
+-- the cells in some bytes: "neither call counts" a remainder
+unfoldable pub cellsIn : List ℕ → List ℕ
+cellsIn bytes = tabulate (length bytes / 4) (λ l. le32 bytes (4 * l))
+
+-- the planning call with `room` bytes for its cells. "That planning call has work words of its own, so 11 does not arise there"
+unfoldable pub consoleOutcome : List ℕ → ℕ → ℕ → ℕ → List ℕ → ℕ → Outcome
+consoleOutcome s filter choice limit callers room = outcome s filter choice limit callers (room / 4) workWords
+
+-- "Checking returns 0 for no, 100 for yes, or the refusal number"
+unfoldable pub consoleCheck : List ℕ → List ℕ → ℕ
+consoleCheck s bytes = checked s (cellsIn bytes)

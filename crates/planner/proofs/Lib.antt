@@ -1,0 +1,4 @@
+pub mod Cases
+pub mod Accepted
+pub mod Answers
+pub mod Demands

@@ -1,0 +1,4 @@
+pub mod Layers
+pub mod Parts
+pub mod Pairs
+pub mod Plans

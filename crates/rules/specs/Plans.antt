@@ -1,0 +1,61 @@
+-- Assignments and the plan check: "The check takes a sheet and cells, reads the first k, and says yes exactly if each is in its link's
+-- list and all rules hold".
+use Prim.Native.Nat.{ℕ, _+_}
+use mathlib.Core.List.{List}
+use mathlib.Core.Bool.{Bool, true, false, _&&_}
+use lib.ListN.{length, getD}
+use lib.Dec.{leb, eqb}
+use Rattle.sets.specs.Below.{all, any, first}
+use Rattle.sheet.specs.Sheet.{linkFirst, linkCount, freq, ruleA, ruleB, kOf, qOf, linkPart, freqPart, rulePart, pairPart}
+use Rattle.sheet.specs.Refusal.{numberOf, passing, refusal}
+use Rattle.rules.specs.Pairs.{allows}
+use Rattle.rules.specs.declared.CheckAnswer.{CheckAnswer}
+use Rattle.rules.specs.declared.CheckAnswer.the-variants.{No, Yes, Few, Refused}
+
+-- the place of the frequency x among `count` from vertex `from` on, or `count`
+unfoldable pub placeOf : List ℕ → ℕ → ℕ → ℕ → ℕ
+placeOf fs from count x = first count (λ i. eqb (freq fs (from + i)) x)
+
+-- x is in the list of link l
+unfoldable pub hasFreq : List ℕ → List ℕ → ℕ → ℕ → Bool
+hasFreq ls fs l x = any (linkCount ls l) (λ i. eqb (freq fs (linkFirst ls l + i)) x)
+
+-- the vertex of the frequency x of link l
+unfoldable pub vertexOf : List ℕ → List ℕ → ℕ → ℕ → ℕ
+vertexOf ls fs l x = linkFirst ls l + placeOf fs (linkFirst ls l) (linkCount ls l) x
+
+-- "An assignment takes for each link one frequency of its list": the one for link l is of its list
+unfoldable pub inLists : List ℕ → List ℕ → (ℕ → ℕ) → ℕ → Bool
+inLists ls fs cells l = hasFreq ls fs l (cells l)
+
+-- rule row j "allows the two frequencies taken for its links"
+unfoldable pub ruleKept : List ℕ → List ℕ → List ℕ → List ℕ → (ℕ → ℕ) → ℕ → Bool
+ruleKept ls fs rs ps cells j =
+    allows ls fs rs ps j (vertexOf ls fs (ruleA rs j) (cells (ruleA rs j))) (vertexOf ls fs (ruleB rs j) (cells (ruleB rs j)))
+
+-- an assignment that "keeps every rule"
+unfoldable pub keeps : List ℕ → List ℕ → List ℕ → List ℕ → ℕ → ℕ → (ℕ → ℕ) → Bool
+keeps ls fs rs ps k q cells = all k (inLists ls fs cells) && all q (ruleKept ls fs rs ps cells)
+
+-- the cells as a frequency for each link
+abbrev pub cellsOf : List ℕ → ℕ → ℕ
+cellsOf cells l = getD cells l 0
+
+unfoldable pub keepsSheet : List ℕ → List ℕ → Bool
+keepsSheet s cells = keeps (linkPart s) (freqPart s) (rulePart s) (pairPart s) (kOf s) (qOf s) (cellsOf cells)
+
+-- "0 for no, 100 for yes"
+abbrev pub yesNo : Bool → ℕ
+yesNo true = 100
+yesNo false = 0
+
+-- "The check knows 1 to 8 and 10": the refusal number, 10 for "fewer than k plan cells", else yes or no
+unfoldable pub checked : List ℕ → List ℕ → ℕ
+checked s cells = passing (eqb (refusal s) 0) (refusal s) λ _. passing (leb (kOf s) (length cells)) 10 λ _. yesNo (keepsSheet s cells)
+
+-- the paper's number for each answer of the check
+abbrev pub checkNumber : CheckAnswer → ℕ
+checkNumber No = 0
+checkNumber Yes = 100
+checkNumber Few = 10
+checkNumber (Refused cause) = numberOf cause
