@@ -1,6 +1,15 @@
+pub mod Masks
+pub mod Filtered
+pub mod ReachRows
+pub mod SweepRows
+pub mod PreFilterRows
+pub mod Steps
+pub mod UnitRows
+pub mod FailedRows
 pub mod Promise
 pub mod Sweep
 pub mod Unit
 pub mod Failed
 pub mod PreFilter
 pub mod Switches
+pub mod SwitchRows

@@ -15,13 +15,17 @@ use Rattle.filters.specs.PreFilter.{preTo, preFilter}
 use Rattle.cliques.proofs.Listing.{clique-any, hits, layers-open}
 use Rattle.cliques.proofs.Graph.{clique-move, clique-open}
 
+-- it only strikes
+pub layers-strike : (G : Graph) (lay : ℕ → ℕ) (m : ℕ) (L : Set) → preTo G lay m L ⊆ L
+unfolding preTo
+layers-strike G lay zero L = λ u h. h
+layers-strike G lay (suc m) L = λ u h. layers-strike G lay m L u (meet-l (preTo G lay m L) _ u h)
+
 module _ (G : Graph) (lay : ℕ → ℕ) (law : Layers G lay) where
   open Graph G using (n, k, cls, adj)
 
   pub pre-strikes : (m : ℕ) (L : Set) → preTo G lay m L ⊆ L
-  unfolding preTo
-  pre-strikes zero L = λ u h. h
-  pre-strikes (suc m) L = λ u h. pre-strikes m L u (meet-l (preTo G lay m L) _ u h)
+  pre-strikes = layers-strike G lay
 
   pub pre-keeps : (m : ℕ) (L : Set) (c : ℕ → ℕ) → m ≤ k → Clique G 0 L c → Clique G 0 (preTo G lay m L) c
   unfolding preTo near

@@ -9,6 +9,7 @@ use Rattle.sets.specs.Sets.{Set, _⊆_}
 use Rattle.sets.proofs.Tests.{clash, is-false, and-l, and-r, and-in, iff}
 use Rattle.cliques.specs.Graph.{Graph, At, isOpen, Clique}
 use Rattle.filters.specs.Promise.{Filter, Refines, Promise}
+use Rattle.filters.specs.Step.{OnTheWay}
 use Rattle.cliques.proofs.Graph.{open-mono, clique-move, clique-sub, clique-open}
 
 module _ (G : Graph) where
@@ -76,23 +77,34 @@ module _ (G : Graph) where
   pub greatest-same : (P : ℕ → Set → Type 0) (F H : Filter) → Greatest P F → Greatest P H → (d : ℕ) (L : Set) → isOpen G d (F d L) ≡ true → F d L ≡ H d L
   greatest-same P F H f h d L o = fun-ext (λ u. iff _ _ (greatest-sub P F H f h d L o u) (greatest-sub P H F h f d L (sym (greatest-open P F H f h d L) ∙ o) u))
 
-  -- L is on the way from L₀ to the greatest set with P: it lacks no vertex of a part that has P and no empty class
-  pub record OnTheWay (P : ℕ → Set → Type 0) (d : ℕ) (L₀ L : Set) : Type 0 where
-    pub strikes : L ⊆ L₀
-    pub keeps : (S : Set) → isOpen G d S ≡ true → P d S → S ⊆ L₀ → S ⊆ L
+  -- strikes that a filter makes too: they may come in any order
+  module _ (P : ℕ → Set → Type 0) (F : Filter) (g : Greatest P F) (d : ℕ) where
+    pub way-start : (L : Set) → OnTheWay G F d L L
+    way-start L = record { strikes = λ v h. h; keeps = λ o. g .strikes d L }
 
-  pub way-start : (P : ℕ → Set → Type 0) (d : ℕ) (L : Set) → OnTheWay P d L L
-  way-start P d L = record { strikes = λ v h. h; keeps = λ S o p s. s }
+    -- no vertex of a part that has P and no empty class is lost
+    pub way-in : (L₀ L : Set) → L ⊆ L₀ → ((S : Set) → isOpen G d S ≡ true → P d S → S ⊆ L₀ → S ⊆ L) → OnTheWay G F d L₀ L
+    way-in L₀ L s f = record { strikes = s; keeps = λ o. f (F d L₀) o (g .closed d L₀ o) (g .strikes d L₀) }
 
-  pub way-on : (P : ℕ → Set → Type 0) (d : ℕ) (L M N : Set) → OnTheWay P d L M → OnTheWay P d M N → OnTheWay P d L N
-  way-on P d L M N a b = record { strikes = λ v h. a .strikes v (b .strikes v h); keeps = λ S o p s. b .keeps S o p (a .keeps S o p s) }
+    way-further : (L M : Set) → OnTheWay G F d L M → isOpen G d (F d L) ≡ true → F d L ⊆ F d M
+    way-further L M a o = g .keeps d M (F d L) o (g .closed d L o) (a .keeps o)
 
-  -- it arrives where it has P and no empty class; and where it has an empty class, so has the greatest set
-  pub way-ends : (P : ℕ → Set → Type 0) (F : Filter) → Greatest P F → (d : ℕ) (L₀ L : Set) → OnTheWay P d L₀ L → isOpen G d L ≡ true → P d L → F d L₀ ≡ L
-  way-ends P F g d L₀ L w o p =
-      let sub = g .keeps d L₀ L o p (w .strikes) in
-      let o₂ = open-mono G d L (F d L₀) sub o in
-      fun-ext (λ v. iff _ _ (w .keeps (F d L₀) o₂ (g .closed d L₀ o₂) (g .strikes d L₀) v) (sub v))
+    pub way-on : (L M N : Set) → OnTheWay G F d L M → OnTheWay G F d M N → OnTheWay G F d L N
+    way-on L M N a b = record {
+      strikes = λ v h. a .strikes v (b .strikes v h);
+      keeps = λ o v h. b .keeps (open-mono G d (F d L) (F d M) (way-further L M a o) o) v (way-further L M a o v h);
+    }
 
-  pub way-shut : (P : ℕ → Set → Type 0) (F : Filter) → Greatest P F → (d : ℕ) (L₀ L : Set) → OnTheWay P d L₀ L → isOpen G d L ≡ false → isOpen G d (F d L₀) ≡ false
-  way-shut P F g d L₀ L w e = is-false _ (λ o. clash (isOpen G d L) (open-mono G d (F d L₀) L (w .keeps (F d L₀) o (g .closed d L₀ o) (g .strikes d L₀)) o) e)
+    -- where F strikes nothing more and no class is empty, it arrives; where F leaves a class empty, it does from the start too
+    pub way-ends : (L₀ L : Set) → OnTheWay G F d L₀ L → isOpen G d L ≡ true → P d L → F d L₀ ≡ L
+    way-ends L₀ L w o p =
+        let sub = g .keeps d L₀ L o p (w .strikes) in
+        let o₂ = open-mono G d L (F d L₀) sub o in
+        fun-ext (λ v. iff _ _ (w .keeps o₂ v) (sub v))
+
+    pub way-shut : (L₀ L : Set) → OnTheWay G F d L₀ L → isOpen G d (F d L) ≡ false → isOpen G d (F d L₀) ≡ false
+    way-shut L₀ L w e = is-false _ (λ o. clash (isOpen G d (F d L)) (open-mono G d (F d L₀) (F d L) (way-further L₀ L w o) o) e)
+
+    -- what has an empty class has one after F
+    pub shut-start : (L : Set) → isOpen G d L ≡ false → isOpen G d (F d L) ≡ false
+    shut-start L e = is-false _ (λ o. clash (isOpen G d L) (open-mono G d (F d L) L (g .strikes d L) o) e)

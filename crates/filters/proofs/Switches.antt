@@ -33,7 +33,7 @@ module _ (G : Graph) where
   unfolding idle
   idle-promise = record { strikes = λ d L u h. h; keeps = λ d L c p. p; refines = λ d L M s o. s }
 
-  on-promise : (b : Bool) (F : Filter) → Promise G F → Promise G (on b F)
+  pub on-promise : (b : Bool) (F : Filter) → Promise G F → Promise G (on b F)
   unfolding on
   on-promise true F p = p
   on-promise false F p = idle-promise

@@ -5,3 +5,5 @@ pub mod Unit
 pub mod Failed
 pub mod PreFilter
 pub mod Switches
+pub mod Reach
+pub mod Step

@@ -1,1 +1,96 @@
-// The filters of a node. This crate has their definitions, what each promises, and the proofs of the promises.
+// The filters of a node, on one part of the work words that begins at the node's own row. A row is w words; the masks of the k classes stand
+// from `masks` on, the rows of the n vertices from `graph` on, and the classes from d on remain.
+// The contracts cite `Filtered` of specs/Filtered.antt: for every graph that the words hold, what a filter leaves is what its definition leaves.
+pub mod failed_rows;
+mod pre_filter_rows;
+mod reach_rows;
+pub mod sweep_rows;
+pub mod unit_rows;
+
+ghost use mathlib.Core.Path.{_≡_};
+ghost use Prim.Native.Nat.{_+_, _≤_};
+ghost use lib.ListN.{length};
+ghost use Rattle.vset.specs.Rows.{setAt};
+ghost use Rattle.cliques.specs.Graph.{Graph, isOpen};
+ghost use Rattle.cliques.specs.Words.{Room, Node};
+ghost use Rattle.filters.specs.Failed.{failed as failedVertices};
+ghost use Rattle.filters.specs.Filtered.{Filtered};
+ghost use Rattle.filters.specs.Switches.{switched, on, atNode};
+use failed_rows::failed;
+pub use pre_filter_rows::pre_filter;
+use sweep_rows::sweep;
+use vset::row::no_common_rows;
+use vset::row::row_at;
+
+// How strikes of a filter came out: a remaining class is empty, or will be; or the filter goes on, and a vertex was struck or not.
+pub enum Step {
+    Shut,
+    Open { struck: bool },
+}
+
+// Whether no remaining class is empty.
+pub fn is_open(
+    part: &[u64],
+    w: usize,
+    masks: usize,
+    graph: usize,
+    n: usize,
+    k: usize,
+    d: usize,
+) -> bool
+    requires { ⌜ Room w w masks graph n k (length (now part)) × (d ≤ k) ⌝ }
+    ensures { λ r. ⌜ ((G : Graph) → Node G d w masks graph n k (now (part .entry)) → r ≡ isOpen G d (setAt (now (part .entry)) w 0)) ⌝ }
+{
+    let mut c = d;
+    while c < k {
+        let m = row_at(masks, w, c, k);
+        if no_common_rows(part, w, 0, m) {
+            return false;
+        }
+        c += 1;
+    }
+    true
+}
+
+// Unit steps and failed vertices, where filter number `filters` has them: whether no remaining class is left empty.
+fn unit_filter(
+    part: &mut [u64],
+    w: usize,
+    masks: usize,
+    graph: usize,
+    n: usize,
+    k: usize,
+    d: usize,
+    filters: u32,
+) -> bool
+    requires { ⌜ Room (w + w + w + w) w masks graph n k (length (now part)) × (d ≤ k) ⌝ }
+    ensures { λ r. ⌜ Filtered (λ G. on (switched filters 4) (failedVertices G)) (w + w + w + w) d w masks graph n k (now (part .entry)) (now (part .exit)) r ⌝ }
+{
+    if filters / 4 % 2 == 1 {
+        return failed(part, w, masks, graph, n, k, d);
+    }
+    is_open(part, w, masks, graph, n, k, d)
+}
+
+// The filters of a node, as filter number `filters` has them switched: whether they leave no remaining class empty.
+pub fn filter(
+    part: &mut [u64],
+    w: usize,
+    masks: usize,
+    graph: usize,
+    n: usize,
+    k: usize,
+    d: usize,
+    filters: u32,
+) -> bool
+    requires { ⌜ Room (w + w + w + w) w masks graph n k (length (now part)) × (d ≤ k) ⌝ }
+    ensures { λ r. ⌜ Filtered (atNode filters) (w + w + w + w) d w masks graph n k (now (part .entry)) (now (part .exit)) r ⌝ }
+{
+    if filters / 2 % 2 != 1 {
+        return unit_filter(part, w, masks, graph, n, k, d, filters);
+    }
+    if !sweep(part, w, masks, graph, n, k, d) {
+        return false;
+    }
+    unit_filter(part, w, masks, graph, n, k, d, filters)
+}

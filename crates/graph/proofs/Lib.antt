@@ -1,2 +1,5 @@
 pub mod Graph
 pub mod Matches
+pub mod Spans
+pub mod Strikes
+pub mod Rows

@@ -1,2 +1,4 @@
 pub mod Graph
 pub mod Matches
+pub mod Rows
+pub mod Strikes

@@ -1,1 +1,6 @@
 pub mod Partition
+pub mod Choice
+pub mod Members
+pub mod Testing
+pub mod Order
+pub mod Filling

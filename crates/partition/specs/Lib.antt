@@ -1,1 +1,3 @@
 pub mod Partition
+pub mod Choice
+pub mod Words

@@ -1,1 +1,109 @@
-// The working partition. This crate has its definitions, and the proof that every class of each choice is independent.
+// The working partition: a class for each of n vertices, below k, and no two adjacent vertices in a class.
+// The contracts cite specs/Partition.antt, the classes of each choice, and specs/Words.antt, how graph and classes stand in words.
+pub mod classes;
+pub mod degrees;
+pub mod masks;
+
+ghost use mathlib.Core.Path.{_≡_};
+ghost use mathlib.Core.Bool.{true};
+ghost use Prim.Native.Nat.{_+_, _*_, _<_, _≤_};
+ghost use lib.Dec.{ltb};
+ghost use lib.ListN.{length};
+ghost use Rattle.sets.specs.Below.{all};
+ghost use Rattle.sheet.specs.Sheet.{linkBytes};
+ghost use Rattle.rules.specs.Layers.{layerOf};
+ghost use Rattle.partition.specs.Partition.{classOf, layersOf};
+ghost use Rattle.partition.specs.Choice.{classList};
+ghost use Rattle.partition.specs.Words.{Alone, AllAlone, Tested};
+use rules::layers::layer;
+use vset::row::no_common_rows;
+use vset::row::row_at;
+
+// Choice 0: the class of a vertex is its layer, among k links.
+pub fn put_layers(ls: &[u8], n: usize, k: usize, cls: &mut [u8])
+    requires { ⌜ (linkBytes * k ≤ length (now ls)) × (length (now cls) ≡ n) × (k < 256) ⌝ }
+    ensures { λ _. ⌜ now (cls .exit) ≡ layersOf n (layerOf (now (ls .entry)) k) ⌝ }
+{
+    let mut v = 0;
+    while v < n {
+        let l = layer(ls, k, v);
+        cls[v] = l as u8;
+        v += 1;
+    }
+}
+
+// Whether v is adjacent to none of its class, whose mask is one of k from `masks` on.
+fn is_alone(
+    part: &[u64],
+    w: usize,
+    masks: usize,
+    graph: usize,
+    n: usize,
+    k: usize,
+    cls: &[u8],
+    v: usize,
+) -> bool
+    requires { ⌜ (masks + k * w ≤ length (now part)) × (graph + n * w ≤ length (now part)) × (n ≤ length (now cls)) × (v < n) × (classOf (now cls) v < k) ⌝ }
+    ensures { λ r. ⌜ Alone w masks graph n k (now (cls .entry)) (now (part .entry)) v r ⌝ }
+{
+    let a = row_at(graph, w, v, n);
+    let b = row_at(masks, w, cls[v] as usize, k);
+    no_common_rows(part, w, a, b)
+}
+
+// Whether each of n vertices is adjacent to none of its class.
+fn all_alone(
+    part: &[u64],
+    w: usize,
+    masks: usize,
+    graph: usize,
+    n: usize,
+    k: usize,
+    cls: &[u8],
+) -> bool
+    requires { ⌜ (masks + k * w ≤ length (now part)) × (graph + n * w ≤ length (now part)) × (n ≤ length (now cls)) × (all n (λ v. ltb (classOf (now cls) v) k) ≡ true) ⌝ }
+    ensures { λ r. ⌜ AllAlone w masks graph n k (now (cls .entry)) (now (part .entry)) r ⌝ }
+{
+    let mut v = 0;
+    while v < n {
+        if !is_alone(part, w, masks, graph, n, k, cls, v) {
+            return false;
+        }
+        v += 1;
+    }
+    true
+}
+
+// Choice 2: whether the caller's list is a partition. The k rows from `masks` on, before the graph's, are written.
+pub fn is_partition(
+    part: &mut [u64],
+    w: usize,
+    masks: usize,
+    graph: usize,
+    n: usize,
+    k: usize,
+    cls: &[u8],
+) -> bool
+    requires { ⌜ (masks + k * w ≤ graph) × (graph + n * w ≤ length (now part)) × (n ≤ 64 * w) ⌝ }
+    ensures { λ r. ⌜ Tested w masks graph n k (now (cls .entry)) (now (part .entry)) (now (part .exit)) r ⌝ }
+{
+    if cls.len() != n {
+        return false;
+    }
+    if !classes::is_placed(n, k, cls) {
+        return false;
+    }
+    masks::put_masks(cls, n, k, w, masks, part);
+    all_alone(part, w, masks, graph, n, k, cls)
+}
+
+// The class list of a choice: a part of the caller's list or of the built one.
+pub fn class_list<'a>(choice: u32, callers: &'a [u8], built: &'a [u8], n: usize) -> &'a [u8]
+    requires { ⌜ ((choice ≡ 2 → n ≤ length (now callers)) × (n ≤ length (now built))) ⌝ }
+    ensures { λ r. ⌜ now r ≡ classList choice (now (callers .entry)) (now (built .entry)) n ⌝ }
+{
+    if choice == 2 {
+        return &callers[..n];
+    }
+    &built[..n]
+}

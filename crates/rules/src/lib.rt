@@ -8,7 +8,7 @@ ghost use mathlib.Core.Path.{_≡_};
 ghost use Prim.Native.Nat.{_≤_};
 ghost use lib.ListN.{length};
 ghost use Rattle.sheet.specs.Sheet.{kOf, nOf, qOf, tOf};
-ghost use Rattle.sheet.specs.Refusal.{refusal};
+ghost use Rattle.sheet.specs.Accepted.{Accepted};
 ghost use Rattle.rules.specs.Plans.{keepsSheet, checked, checkNumber};
 use plans::keeps;
 use sheet::check_sheet;
@@ -37,7 +37,7 @@ pub fn check_number(a: CheckAnswer) -> u32
 
 // Whether the cells are an assignment that keeps every rule of an accepted sheet.
 fn keeps_sheet(s: &[u8], k: usize, n: usize, q: usize, t: usize, cells: &[u32]) -> bool
-    requires { ⌜ (refusal (now s) ≡ 0) × (k ≡ kOf (now s)) × (n ≡ nOf (now s)) × (q ≡ qOf (now s)) × (t ≡ tOf (now s)) × (k ≤ length (now cells)) ⌝ }
+    requires { ⌜ Accepted (now s) × (k ≡ kOf (now s)) × (n ≡ nOf (now s)) × (q ≡ qOf (now s)) × (t ≡ tOf (now s)) × (k ≤ length (now cells)) ⌝ }
     ensures { λ r. ⌜ r ≡ keepsSheet (now (s .entry)) (now (cells .entry)) ⌝ }
 {
     let freqs_at = 40 + 4 * k;

@@ -24,7 +24,7 @@ pub record Outside (lo hi : ℕ) (p p′ : List ℕ) : Type 0 where
   pub len : length p′ ≡ length p
   pub same : (j : ℕ) → (lo ≤ j → j < hi → ⊥) → getD p′ j 0 ≡ getD p j 0
 
--- the row at a may be read while the row at `to` is written: it is the same row, or ends before it, or begins after its first word
+-- the row at a may be read while the row at `to` is written word by word: it begins there or later, or ends before it
 pub record Reads (w to a len : ℕ) : Type 0 where
   pub fits : a + w ≤ len
   pub clear : a < to → a + w ≤ to

@@ -209,19 +209,3 @@ pub fn is_empty_common(a: &[u64], b: &[u64]) -> bool
     }
     true
 }
-
-// Whether no vertex is in all three sets.
-pub fn is_empty_three(a: &[u64], b: &[u64], c: &[u64]) -> bool
-    requires { ⌜ length (now a) ≡ length (now b) ⌝ }
-    requires { ⌜ length (now a) ≡ length (now c) ⌝ }
-    ensures { λ r. ⌜ Emptiness (has (now (a .entry)) ∩ has (now (b .entry)) ∩ has (now (c .entry))) r ⌝ }
-{
-    let mut i = 0;
-    while i < a.len() {
-        if a[i] & b[i] & c[i] != 0 {
-            return false;
-        }
-        i += 1;
-    }
-    true
-}

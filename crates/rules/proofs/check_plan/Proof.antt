@@ -35,7 +35,7 @@ word-requires-4 c κs = let h = accepted _ (fine (c .before .before .before .bef
 
 keeps-sheet-requires : tie.Need-keeps-sheet-requires
 keeps-sheet-requires c κs =
-    (fine (c .before .before .before .before .before), c .before .before .before .before .word .ensures .0, c .before .before .word2 .ensures .0, c .before .word3 .ensures .0, c .word4 .ensures .0, c .before .before .before .if2 .left)
+    (accepted _ (fine (c .before .before .before .before .before)), c .before .before .before .before .word .ensures .0, c .before .before .word2 .ensures .0, c .before .word3 .ensures .0, c .word4 .ensures .0, c .before .before .before .if2 .left)
 
 returns-3 : tie.Need-returns-3
 unfolding checked

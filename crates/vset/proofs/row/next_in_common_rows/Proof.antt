@@ -16,7 +16,7 @@ returns c =
     let e : a .a + a .w - a .a ≡ a .w = omega arith in
     let f : a .b + a .w - a .b ≡ a .w = omega arith in
     let n = row-length (a .part .now) (a .w) (a .a) (s .pre .0) in
-    rw (e, f, n) at (c .next-common .ensures)
+    simp (e, f, n) at (c .next-common .ensures)
 
 pub next-in-common-rows-spec : {M : Type 1} → statement M
 next-in-common-rows-spec =

@@ -14,7 +14,7 @@ returns c =
     let a = s .args in
     let e : a .a + a .w - a .a ≡ a .w = omega arith in
     let f : a .b + a .w - a .b ≡ a .w = omega arith in
-    rw (e, f) at (c .is-empty-common .ensures)
+    simp (e, f) at (c .is-empty-common .ensures)
 
 pub no-common-rows-spec : {M : Type 1} → statement M
 no-common-rows-spec =

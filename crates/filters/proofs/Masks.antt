@@ -1,0 +1,59 @@
+-- What the words of a node say of the classes of the graph that they hold.
+use mathlib.Core.Path.{_≡_, sym, ap, _∙_}
+use mathlib.Core.Bool.{Bool, true, false, _&&_}
+use mathlib.Core.List.{List}
+use Prim.Native.Nat.{ℕ, _*_, _≤_, _<_}
+use native.Mathlib.Decide.{decLt}
+use native.Mathlib.Omega.{arith}
+use lib.Dec.{eqb}
+use borrow.Author.Tests.{eqb-true, eq-eqb}
+use Rattle.sets.specs.Below.{count}
+use Rattle.sets.specs.Sets.{Set, _∩_}
+use Rattle.sets.proofs.Tests.{clash, is-false}
+use Rattle.sets.proofs.Below.{count-same}
+use Rattle.sets.proofs.Sets.{meet-l, meet-r, meet-in}
+use Rattle.vset.specs.Rows.{setAt, rowAt}
+use Rattle.vset.proofs.Count.{count-gap}
+use Rattle.vset.proofs.Rows.{set-past}
+use Rattle.cliques.specs.Graph.{Graph, At, inClass, size, some, isOpen}
+use Rattle.cliques.specs.Words.{Node}
+use Rattle.cliques.proofs.Graph.{some-in, lower-at, open-in, open-out}
+
+-- a vertex of a row is one that its words have a bit for
+pub row-member : (p : List ℕ) (w at v : ℕ) → setAt p w at v ≡ true → v < 64 * w
+row-member p w at v h = go (decLt v (64 * w))
+  where
+    go : Dec (v < 64 * w) → v < 64 * w
+    go (yes l) = l
+    go (no l) = clash (setAt p w at v) h (set-past p w at v (omega arith))
+
+module _ {G : Graph} {d w masks graph n k : ℕ} {p : List ℕ} (N : Node G d w masks graph n k p) where
+  -- a live vertex in the mask of a class is a live vertex of the class
+  pub seen-at : (c v : ℕ) → c < k → (setAt p w 0 ∩ rowAt p w masks c) v ≡ true → At G c v (setAt p w 0)
+  seen-at c v l h =
+      let a = meet-l (setAt p w 0) (rowAt p w masks c) v h in
+      let b = meet-r (setAt p w 0) (rowAt p w masks c) v h in
+      let r = N .live v a .0 in
+      record { lt = r; live = a; cl = eqb-true (G .cls v) c (sym (N .held .mask c v l (omega (arith, N .held .size))) ∙ b) }
+
+  pub at-seen : (c v : ℕ) → c < k → At G c v (setAt p w 0) → (setAt p w 0 ∩ rowAt p w masks c) v ≡ true
+  at-seen c v l a = meet-in (setAt p w 0) (rowAt p w masks c) v (a .live) (N .held .mask c v l (omega (arith, N .held .size, a .lt)) ∙ eq-eqb (G .cls v) c (a .cl))
+
+  pub none-some : (c : ℕ) → c < k → ((v : ℕ) → (setAt p w 0 ∩ rowAt p w masks c) v ≡ false) → some G c (setAt p w 0) ≡ false
+  none-some c l h = is-false (some G c (setAt p w 0)) (λ t. clash ((setAt p w 0 ∩ rowAt p w masks c) _) (at-seen c _ l (lower-at G c _ t)) (h _))
+
+  -- open, where a vertex was seen in each class; not open, where a class has none
+  pub all-seen : ((x : ℕ) → d ≤ x → x < k → (v : ℕ) × ((setAt p w 0 ∩ rowAt p w masks x) v ≡ true)) → true ≡ isOpen G d (setAt p w 0)
+  all-seen f = sym (open-in G d (setAt p w 0) (λ c a b. let l : c < k = omega (arith, N .held .classes) in
+      some-in G c (f c a l .0) (setAt p w 0) (seen-at c (f c a l .0) l (f c a l .1))))
+
+  pub one-empty : (c : ℕ) → d ≤ c → c < k → ((v : ℕ) → (setAt p w 0 ∩ rowAt p w masks c) v ≡ false) → false ≡ isOpen G d (setAt p w 0)
+  one-empty c a l h = sym (is-false (isOpen G d (setAt p w 0)) (λ t. clash (some G c (setAt p w 0)) (open-out G d _ t c a (omega (arith, N .held .classes))) (none-some c l h)))
+
+  -- what the own row and a mask have in common is what is live of the class
+  pub size-words : (c : ℕ) → c < k → n ≤ 64 * w → count (64 * w) (setAt p w 0 ∩ rowAt p w masks c) ≡ size G c (setAt p w 0)
+  unfolding _∩_ size inClass
+  size-words c l h =
+      count-gap (setAt p w 0 ∩ rowAt p w masks c) n (64 * w) h (λ v a b. is-false _ (λ t. let r = N .live v (meet-l (setAt p w 0) (rowAt p w masks c) v t) .0 in omega (arith, N .held .size)))
+      ∙ count-same n _ _ (λ v m. ap (λ (b : Bool). setAt p w 0 v && b) (N .held .mask c v l m))
+      ∙ ap (λ (j : ℕ). count j (λ v. setAt p w 0 v && eqb (G .cls v) c)) (sym (N .held .size))

@@ -1,0 +1,55 @@
+-- `filters::sweep_rows::sweep` meets its contract. The invariant: the classes below e have struck.
+use borrow.Author.Needs.{needs}
+use native.Mathlib.Omega.{arith}
+use Prim.Native.Nat.{_-_}
+use Rattle.filters.proofs.SweepRows.{Sweeping, sweeping-none, sweeping-more, sweeping-all}
+use Rattle.filters.proofs.Filtered.{filtered-before}
+use Rattle.filters.proofs.sweep_rows.sweep.Statement.{statement}
+use Rattle.filters.proofs.sweep_rows.sweep.Tie as tie
+
+abbrev Inv-loop : tie.InvT-loop
+Inv-loop part₀ w masks graph n k d a e₀ part e = Sweeping d w masks graph n k part₀ part e
+
+abbrev μ-loop : tie.MeasureT-loop
+μ-loop part₀ w masks graph n k d a e₀ part e = k - e
+
+loop-holds : tie.Need-loop-holds Inv-loop μ-loop
+loop-holds c = let x = c .before .before in sweeping-none (x .before .before .before .pre .1) (x .clear-row .ensures .here)
+
+loop-again : tie.Need-loop-again Inv-loop μ-loop
+loop-again c =
+    let x = c .before .before in
+    let r = x .before .before in
+    let i = r .before in
+    let l = i .before in
+    let s = l .before .before .before .before .before .before in
+    sweeping-more (s .pre .0 .masks-after) (s .pre .0 .graph-after) (l .loop .inv) (i .loop-test .taken) (r .row-at .ensures .here) (x .sweep-by .ensures)
+
+returns : tie.Need-returns Inv-loop μ-loop
+returns c =
+    let i = c .before .before in
+    let l = i .before in
+    let s = l .before .before .before .before .before .before in
+    let a = s .pre .0 .masks-after in
+    let b = s .pre .0 .graph-after in
+    filtered-before a b (omega arith) (omega arith) (l .before .before .before .clear-row .ensures .rest)
+    (sweeping-all a b (l .loop .inv) (i .loop-test .left) (c .is-open .ensures))
+
+pub sweep-spec : {M : Type 1} → statement M
+sweep-spec =
+    tie.close
+    (tie.spec
+    Inv-loop
+    μ-loop
+    (λ c. search needs)  -- add-a
+    (λ c. search needs)  -- add-a-2
+    (λ c κs. search needs)  -- clear-requires
+    loop-holds
+    (λ c κs. search needs)  -- row-at-requires
+    (λ c κs. search needs)  -- push-requires
+    (λ c. search needs)  -- add-e
+    (λ c. search needs)  -- loop-less
+    loop-again
+    (λ c κs. search needs)  -- is-open-requires
+    (λ c. search needs)  -- same-length
+    returns)

@@ -1,0 +1,26 @@
+-- `filters::sweep_rows::sweep_by` meets its contract.
+use borrow.Author.Needs.{needs}
+use native.Mathlib.Omega.{arith}
+use Rattle.filters.proofs.ReachRows.{swept-by}
+use Rattle.filters.proofs.sweep_rows.sweep_by.Statement.{statement}
+use Rattle.filters.proofs.sweep_rows.sweep_by.Tie as tie
+
+returns : tie.Need-returns
+returns c =
+    let z = c .before .before in
+    let y = z .before .before .before .before in
+    let x = y .before .before .before .before in
+    let s = x .before .before .before in
+    swept-by (s .pre .0) (s .pre .2) (x .join-rows .ensures) (y .copy-row .ensures) (z .strike-unreached .ensures)
+
+pub sweep-by-spec : {M : Type 1} → statement M
+sweep-by-spec =
+    tie.close
+    (tie.spec
+    (λ c. search needs)  -- add-u
+    (λ c. search needs)  -- add-a
+    (λ c κs. search needs)  -- join-requires
+    (λ c κs. search needs)  -- meet-requires
+    (λ c κs. search needs)  -- turn-requires
+    (λ c. search needs)  -- same-length
+    returns)

@@ -1,0 +1,61 @@
+-- `filters::unit_rows::visit` meets its contract: by the number of live vertices of the class.
+use borrow.Author.Needs.{needs}
+use native.Mathlib.Omega.{arith}
+use Rattle.filters.proofs.UnitRows.{visit-shut, visit-more, visit-none, visit-struck}
+use Rattle.filters.proofs.unit_rows.visit.Statement.{statement}
+use Rattle.filters.proofs.unit_rows.visit.Tie as tie
+
+returns : tie.Need-returns
+returns c d h =
+    let z = c .before in
+    let r = z .before .before in
+    let s = r .before .before in
+    let q = s .pre .0 in
+    visit-shut (q .masks-after) (q .graph-after) (q .wide) (s .pre .1) (r .row-at .ensures .here) (z .size-of-common-rows .ensures) d h (c .if1 .taken)
+
+returns-2 : tie.Need-returns-2
+returns-2 c d h =
+    let z = c .before .before in
+    let r = z .before .before in
+    let s = r .before .before in
+    let q = s .pre .0 in
+    visit-more (q .masks-after) (q .graph-after) (q .wide) (s .pre .1) (r .row-at .ensures .here) (z .size-of-common-rows .ensures) d h (c .if2 .taken)
+
+returns-3 : tie.Need-returns-3
+returns-3 c d h =
+    let y = c .before in
+    let z = y .before .before .before .before in
+    let r = z .before .before in
+    let s = r .before .before in
+    let q = s .pre .0 in
+    visit-none (q .masks-after) (q .graph-after) (q .wide) (s .pre .1) (r .row-at .ensures .here) (z .size-of-common-rows .ensures) d h
+    (omega arith) (y .next-in-common-rows .ensures) (c .if3 .taken)
+
+returns-4 : tie.Need-returns-4
+returns-4 c d h =
+    let x = c .before .before in
+    let i = x .before .before in
+    let y = i .before in
+    let z = y .before .before .before .before in
+    let r = z .before .before in
+    let s = r .before .before in
+    let q = s .pre .0 in
+    visit-struck (q .masks-after) (q .graph-after) (q .wide) (s .pre .1) (r .row-at .ensures .here) (z .size-of-common-rows .ensures) d h
+    (omega arith) (y .next-in-common-rows .ensures) (i .if3 .left) (x .strike-others .ensures)
+
+pub visit-spec : {M : Type 1} → statement M
+visit-spec =
+    tie.close
+    (tie.spec
+    (λ c κs. search needs)
+    (λ c κs. search needs)
+    (λ c. search needs)
+    returns
+    (λ c. search needs)
+    returns-2
+    (λ c κs. search needs)
+    (λ c. search needs)
+    returns-3
+    (λ c κs. search needs)
+    (λ c. search needs)
+    returns-4)

@@ -1,0 +1,132 @@
+// Failed vertices. Unit steps, then a round of trials, until a round strikes nothing.
+ghost use mathlib.Core.Path.{_≡_};
+ghost use mathlib.Core.Bool.{true};
+ghost use Prim.Native.Nat.{_+_, _*_, _<_, _≤_};
+ghost use lib.ListN.{length};
+ghost use Rattle.sets.specs.Below.{count};
+ghost use Rattle.sets.specs.Sets.{_∩_};
+ghost use Rattle.vset.specs.Rows.{setAt, rowAt};
+ghost use Rattle.cliques.specs.Words.{Room};
+ghost use Rattle.filters.specs.Failed.{failed as failedVertices};
+ghost use Rattle.filters.specs.Filtered.{Filtered};
+ghost use Rattle.filters.specs.Step.{Stepped, Stands, BothStand, AllStand};
+use crate::Step;
+use crate::unit_rows::unit_steps;
+use vset::row::add_to_row;
+use vset::row::cut_rows;
+use vset::row::next_in_common_rows;
+use vset::row::row_at;
+use vset::row::size_of_common_rows;
+use vset::row::take_from_row;
+
+// A trial of vertex a, of class c with two live vertices: alone in its class, on a copy in row 1. Where unit steps refute that, it is struck, and unit
+// steps run.
+fn trial(
+    part: &mut [u64],
+    w: usize,
+    masks: usize,
+    graph: usize,
+    n: usize,
+    k: usize,
+    d: usize,
+    c: usize,
+    a: usize,
+) -> Step
+    requires { ⌜ Room (w + w + w + w) w masks graph n k (length (now part)) × (d ≤ c) × (c < k) × (count (64 * w) (setAt (now part) w 0 ∩ rowAt (now part) w masks c) ≡ 2) × ((setAt (now part) w 0 ∩ rowAt (now part) w masks c) a ≡ true) ⌝ }
+    ensures { λ r. ⌜ Stepped failedVertices (λ G. Stands G d a) (w + w + w + w) d w masks graph n k (now (part .entry)) (now (part .exit)) r ⌝ }
+{
+    let m = row_at(masks, w, c, k);
+    cut_rows(part, w, w, 0, m);
+    add_to_row(part, w, w, a);
+    let masks_there = masks - w;
+    let graph_there = graph - w;
+    if unit_steps(&mut part[w..], w, masks_there, graph_there, n, k, d) {
+        return Step::Open { struck: false };
+    }
+    take_from_row(part, w, 0, a);
+    if unit_steps(part, w, masks, graph, n, k, d) {
+        Step::Open { struck: true }
+    } else {
+        Step::Shut
+    }
+}
+
+// Where class c has two live vertices, the lower is tried, and then, where it has two still, the higher.
+fn try_class(
+    part: &mut [u64],
+    w: usize,
+    masks: usize,
+    graph: usize,
+    n: usize,
+    k: usize,
+    d: usize,
+    c: usize,
+) -> Step
+    requires { ⌜ Room (w + w + w + w) w masks graph n k (length (now part)) × (d ≤ c) × (c < k) ⌝ }
+    ensures { λ r. ⌜ Stepped failedVertices (λ G. BothStand G d c) (w + w + w + w) d w masks graph n k (now (part .entry)) (now (part .exit)) r ⌝ }
+{
+    let m = row_at(masks, w, c, k);
+    if size_of_common_rows(part, w, 0, m) != 2 {
+        return Step::Open { struck: false };
+    }
+    let a = next_in_common_rows(part, w, 0, m, 0);
+    let Step::Open { struck } = trial(part, w, masks, graph, n, k, d, c, a) else {
+        return Step::Shut;
+    };
+    if struck {
+        return Step::Open { struck: true };
+    }
+    let b = next_in_common_rows(part, w, 0, m, a + 1);
+    trial(part, w, masks, graph, n, k, d, c, b)
+}
+
+// A round: each remaining class that has two live vertices when its turn comes has them tried.
+fn round(
+    part: &mut [u64],
+    w: usize,
+    masks: usize,
+    graph: usize,
+    n: usize,
+    k: usize,
+    d: usize,
+) -> Step
+    requires { ⌜ Room (w + w + w + w) w masks graph n k (length (now part)) × (d ≤ k) ⌝ }
+    ensures { λ r. ⌜ Stepped failedVertices (λ G. AllStand G d) (w + w + w + w) d w masks graph n k (now (part .entry)) (now (part .exit)) r ⌝ }
+{
+    let mut struck = false;
+    let mut c = d;
+    while c < k {
+        let Step::Open { struck: here } = try_class(part, w, masks, graph, n, k, d, c) else {
+            return Step::Shut;
+        };
+        struck = struck | here;
+        c += 1;
+    }
+    Step::Open { struck }
+}
+
+// Unit steps and rounds of trials: whether they leave no remaining class empty.
+pub fn failed(
+    part: &mut [u64],
+    w: usize,
+    masks: usize,
+    graph: usize,
+    n: usize,
+    k: usize,
+    d: usize,
+) -> bool
+    requires { ⌜ Room (w + w + w + w) w masks graph n k (length (now part)) × (d ≤ k) ⌝ }
+    ensures { λ r. ⌜ Filtered failedVertices (w + w + w + w) d w masks graph n k (now (part .entry)) (now (part .exit)) r ⌝ }
+{
+    let mut go_on = true;
+    while go_on {
+        if !unit_steps(part, w, masks, graph, n, k, d) {
+            return false;
+        }
+        let Step::Open { struck } = round(part, w, masks, graph, n, k, d) else {
+            return false;
+        };
+        go_on = struck;
+    }
+    true
+}

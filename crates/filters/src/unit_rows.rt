@@ -1,0 +1,112 @@
+// Unit steps. The lone vertex of a class strikes its non-neighbours; classes are visited in rising order, pass after pass, until one strikes nothing.
+// What is left is the same in any order of the strikes, so that no class taken has to be kept.
+ghost use mathlib.Core.Path.{_≡_};
+ghost use mathlib.Core.Bool.{true};
+ghost use Prim.Native.Nat.{ℕ, _+_, _*_, _^_, _<_, _≤_};
+ghost use lib.ListN.{length};
+ghost use Rattle.sets.specs.Below.{count};
+ghost use Rattle.vset.specs.Rows.{setAt};
+ghost use Rattle.cliques.specs.Words.{Room};
+ghost use Rattle.filters.specs.Filtered.{Filtered};
+ghost use Rattle.filters.specs.Step.{Stepped, StruckOthers, Calm, Rests};
+ghost use Rattle.filters.specs.Unit.{unit};
+use crate::Step;
+use vset::row::cut_rows;
+use vset::row::join_rows;
+use vset::row::next_in_common_rows;
+use vset::row::no_common_rows;
+use vset::row::row_at;
+use vset::row::size_of_common_rows;
+
+// Strikes from the own row whoever is neither a neighbour of v nor in row m: whether there was one.
+fn strike_others(part: &mut [u64], w: usize, m: usize, graph: usize, n: usize, v: usize) -> bool
+    requires { ⌜ (w + w ≤ m) × (m + w ≤ length (now part)) × (w + w ≤ graph) × (graph + n * w ≤ length (now part)) × (v < n) ⌝ }
+    ensures { λ r. ⌜ StruckOthers w m graph v (now (part .entry)) (now (part .exit)) r ⌝ }
+{
+    let g = row_at(graph, w, v, n);
+    join_rows(part, w, w, g, m);
+    cut_rows(part, w, w, 0, w);
+    if no_common_rows(part, w, w, w) {
+        return false;
+    }
+    cut_rows(part, w, 0, 0, w);
+    true
+}
+
+// A visit to class c: where it has one live vertex, that strikes its non-neighbours in other classes.
+fn visit(
+    part: &mut [u64],
+    w: usize,
+    masks: usize,
+    graph: usize,
+    n: usize,
+    k: usize,
+    c: usize,
+) -> Step
+    requires { ⌜ Room (w + w) w masks graph n k (length (now part)) × (c < k) ⌝ }
+    ensures { λ r. ⌜ ((d : ℕ) → d ≤ c → Stepped unit (λ G. Calm G d c) (w + w) d w masks graph n k (now (part .entry)) (now (part .exit)) r) ⌝ }
+{
+    let m = row_at(masks, w, c, k);
+    let live = size_of_common_rows(part, w, 0, m);
+    if live == 0 {
+        return Step::Shut;
+    }
+    if live > 1 {
+        return Step::Open { struck: false };
+    }
+    let v = next_in_common_rows(part, w, 0, m, 0);
+    if v >= n {
+        return Step::Open { struck: false };
+    }
+    let struck = strike_others(part, w, m, graph, n, v);
+    Step::Open { struck }
+}
+
+// A pass: each remaining class is visited once.
+fn pass(
+    part: &mut [u64],
+    w: usize,
+    masks: usize,
+    graph: usize,
+    n: usize,
+    k: usize,
+    d: usize,
+) -> Step
+    requires { ⌜ Room (w + w) w masks graph n k (length (now part)) × (d ≤ k) ⌝ }
+    ensures { λ r. ⌜ Stepped unit (λ G. Rests G d) (w + w) d w masks graph n k (now (part .entry)) (now (part .exit)) r ⌝ }
+{
+    let mut struck = false;
+    let mut c = d;
+    while c < k {
+        let Step::Open { struck: here } = visit(part, w, masks, graph, n, k, c) else {
+            return Step::Shut;
+        };
+        struck = struck | here;
+        c += 1;
+    }
+    Step::Open { struck }
+}
+
+// Unit steps: whether they leave no remaining class empty.
+pub fn unit_steps(
+    part: &mut [u64],
+    w: usize,
+    masks: usize,
+    graph: usize,
+    n: usize,
+    k: usize,
+    d: usize,
+) -> bool
+    requires { ⌜ Room (w + w) w masks graph n k (length (now part)) × (d ≤ k) ⌝ }
+    ensures { λ r. ⌜ Filtered unit (w + w) d w masks graph n k (now (part .entry)) (now (part .exit)) r ⌝ }
+    ensures no_more { λ r. ⌜ (r ≡ true → count (64 * w) (setAt (now (part .exit)) w 0) ≤ count (64 * w) (setAt (now (part .entry)) w 0)) ⌝ }
+{
+    let mut go_on = true;
+    while go_on {
+        let Step::Open { struck } = pass(part, w, masks, graph, n, k, d) else {
+            return false;
+        };
+        go_on = struck;
+    }
+    true
+}

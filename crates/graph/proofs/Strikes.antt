@@ -1,0 +1,118 @@
+-- Laws of what a rule row strikes: the partners by its pairs, and rows that are struck one after another.
+use mathlib.Core.Path.{_≡_, refl, sym, ap, _∙_, fun-ext}
+use mathlib.Core.Bool.{Bool, true, false, not, _&&_, _||_}
+use mathlib.Core.List.{List}
+use Prim.Native.Nat.{ℕ, _+_, _-_, _*_, _≤_, _<_}
+use native.Mathlib.Decide.{ℕ-discrete, decLt}
+use native.Mathlib.Omega.{arith}
+use native.Mathlib.Numerals.{add-one}
+use lib.Dec.{eqb}
+use borrow.Author.Tests.{eqb-true, eq-eqb, ne-eqb}
+use Rattle.sets.specs.Below.{any}
+use Rattle.sets.specs.Sets.{Set, _∩_, _∪_, _∖_, nothing, just}
+use Rattle.sheet.specs.Sheet.{freq}
+use Rattle.vset.specs.Rows.{setAt, rowAt, Outside, Put}
+use Rattle.vset.proofs.Rows.{row-inside, outside-none, outside-then, outside-wide, above, below}
+use Rattle.graph.specs.declared.Side.{Side}
+use Rattle.graph.specs.Rows.{RowsFit}
+use Rattle.graph.specs.Strikes.{stretch, ownPlace, otherPlace, partner, partners, clashing, barred, Struck}
+use Rattle.graph.proofs.Spans.{none-join, cut-none, cut-cut, put-none, put-as, put-then}
+
+-- partners
+
+pub partner-is : (ps : List ℕ) (turned : Bool) (first x i : ℕ) → ownPlace ps turned i ≡ x → partner ps turned first x i ≡ just (first + otherPlace ps turned i)
+unfolding partner just
+partner-is ps turned first x i e = fun-ext (λ v. rw (eq-eqb (ownPlace ps turned i) x e))
+
+pub partner-no : (ps : List ℕ) (turned : Bool) (first x i : ℕ) → (ownPlace ps turned i ≡ x → ⊥) → partner ps turned first x i ≡ nothing
+unfolding partner nothing
+partner-no ps turned first x i e = fun-ext (λ v. rw (ne-eqb (ownPlace ps turned i) x e))
+
+partners-none : (ps : List ℕ) (turned : Bool) (first x base : ℕ) → partners ps turned first x base 0 ≡ nothing
+unfolding partners any nothing
+partners-none ps turned first x base = refl
+
+partners-more : (ps : List ℕ) (turned : Bool) (first x base i : ℕ) → partners ps turned first x base (i + 1) ≡ partners ps turned first x base i ∪ partner ps turned first x (base + i)
+unfolding partners any _∪_
+partners-more ps turned first x base i = fun-ext (λ v. rw add-one)
+
+-- one pair row: its partner is taken from the row, or it has none for x
+pub freed-is : {w to : ℕ} {p q : List ℕ} (ps : List ℕ) (turned : Bool) (first x i : ℕ) → ownPlace ps turned i ≡ x
+    → Put (setAt p w to ∖ just (first + otherPlace ps turned i)) w to p q → Put (setAt p w to ∖ partner ps turned first x i) w to p q
+freed-is {w} {to} {p} ps turned first x i e P = put-as (ap (λ (X : Set). setAt p w to ∖ X) (sym (partner-is ps turned first x i e))) P
+
+pub freed-no : (w to : ℕ) (p ps : List ℕ) (turned : Bool) (first x i : ℕ) → (ownPlace ps turned i ≡ x → ⊥) → Put (setAt p w to ∖ partner ps turned first x i) w to p p
+freed-no w to p ps turned first x i e = put-as (sym (ap (λ (X : Set). setAt p w to ∖ X) (partner-no ps turned first x i e) ∙ cut-none (setAt p w to))) (put-none w to p)
+
+-- the loop over the pair rows: none yet, and one more
+pub freed-none : {S : Set} {w to : ℕ} {p q : List ℕ} (ps : List ℕ) (turned : Bool) (first x base : ℕ) → Put S w to p q → Put (S ∖ partners ps turned first x base 0) w to p q
+freed-none {S} ps turned first x base P = put-as (sym (ap (λ (X : Set). S ∖ X) (partners-none ps turned first x base) ∙ cut-none S)) P
+
+pub freed-more : {w to : ℕ} {p q r : List ℕ} (S : Set) (ps : List ℕ) (turned : Bool) (first x base i : ℕ) → Put (S ∖ partners ps turned first x base i) w to p q
+    → Put (setAt q w to ∖ partner ps turned first x (base + i)) w to q r → Put (S ∖ partners ps turned first x base (i + 1)) w to p r
+freed-more S ps turned first x base i P Q = put-then (λ T. T ∖ partner ps turned first x (base + i)) P Q
+    (cut-cut S (partners ps turned first x base i) (partner ps turned first x (base + i)) ∙ ap (λ (X : Set). S ∖ X) (sym (partners-more ps turned first x base i)))
+
+-- a stretch put into an empty row
+pub stretch-put : {w to : ℕ} {p q r : List ℕ} (a b : ℕ) → Put nothing w to p q → Put (setAt q w to ∪ stretch a b) w to q r → Put (stretch a b) w to p r
+stretch-put a b P Q = put-then (λ S. S ∪ stretch a b) P Q (none-join (stretch a b))
+
+-- what a rule bars, by its kind
+pub barred-listed : (fs ps : List ℕ) (s : Side) (u : ℕ) → s .kind ≡ 3
+    → stretch (s .first) (s .end) ∖ partners ps (s .turned) (s .first) (u - s .from) (s .value) (s .count) ≡ barred fs ps s u
+unfolding barred
+barred-listed fs ps s u e = rw (eq-eqb (s .kind) 3 e)
+
+pub barred-plain : (fs ps : List ℕ) (s : Side) (u : ℕ) → (s .kind ≡ 3 → ⊥)
+    → stretch (s .first) (s .end) ∩ clashing fs (s .kind) (s .value) (freq fs u) ≡ barred fs ps s u
+unfolding barred
+barred-plain fs ps s u e = rw (ne-eqb (s .kind) 3 e)
+
+-- rows struck one after another
+
+module _ (F : ℕ → Set) (w spare graph n : ℕ) where
+  pub rows-none : (lo : ℕ) (p : List ℕ) → Struck F lo lo w spare graph n p p
+  rows-none lo p = record { rows = λ x a b. absurd (omega arith); others = λ x l h. refl; rest = outside-none _ _ p }
+
+  pub rows-more : {p q r : List ℕ} (lo u : ℕ) → lo ≤ u → u < n → Struck F lo u w spare graph n p q → Struck F u (u + 1) w spare graph n q r
+      → Struck F lo (u + 1) w spare graph n p r
+  rows-more {p} {q} {r} lo u a b P Q = record {
+    rows = λ x l h. go x l h (ℕ-discrete x u);
+    others = λ x l h. Q .others x l (λ d e. h (omega arith) e) ∙ P .others x l (λ d e. h d (omega arith));
+    rest = outside-then (P .rest) (Q .rest);
+  }
+    where
+      go : (x : ℕ) → lo ≤ x → x < u + 1 → Dec (x ≡ u) → rowAt r w graph x ≡ rowAt p w graph x ∖ F x
+      go x l h (yes e) = Q .rows x (omega arith) h ∙ ap (λ (X : Set). X ∖ F x) (P .others x (omega arith) (λ d g. omega arith))
+      go x l h (no e) = Q .others x (omega arith) (λ d g. e (omega arith)) ∙ P .rows x l (omega arith)
+
+  -- one row written
+  module _ (u at : ℕ) {len : ℕ} (fit : RowsFit w spare graph n len) (b : u < n) (here : at ≡ graph + u * w) where
+    others-same : {S : Set} {p q : List ℕ} → Put S w at p q → (x : ℕ) → x < n → (u ≤ x → x < u + 1 → ⊥) → rowAt q w graph x ≡ rowAt p w graph x
+    others-same {S} {p} {q} P x l h = go (decLt x u) (decLt u x)
+      where
+        go : Dec (x < u) → Dec (u < x) → rowAt q w graph x ≡ rowAt p w graph x
+        go (yes d) e = let i = row-inside x u w d in below (P .rest) w (graph + x * w) (omega arith)
+        go (no d) (yes e) = let i = row-inside u x w e in above (P .rest) w (graph + x * w) (omega arith)
+        go (no d) (no e) = absurd (h (omega arith) (omega arith))
+
+    row-rest : {S : Set} {p q : List ℕ} → Put S w at p q → Outside spare (graph + n * w) p q
+    row-rest P = let i = row-inside u n w b in let f = fit .apart in outside-wide spare (graph + n * w) (omega arith) (omega arith) (P .rest)
+
+    pub row-struck : {p q : List ℕ} → Put (setAt p w at ∖ F u) w at p q → Struck F u (u + 1) w spare graph n p q
+    row-struck {p} {q} P = record {
+      rows = λ x d e. let i : x ≡ u = omega arith in let P′ : setAt q w (graph + u * w) ≡ setAt p w (graph + u * w) ∖ F u = rw here at (P .here) in rw i P′;
+      others = others-same P;
+      rest = row-rest P;
+    }
+
+    -- with a spare row written before
+    pub row-cut : {S : Set} {p q r : List ℕ} → Put S w spare p q → Put (setAt q w at ∖ setAt q w spare) w at q r → S ≡ F u → Struck F u (u + 1) w spare graph n p r
+    row-cut {S} {p} {q} {r} P Q e = record {
+      rows = λ x d h. X .rows x d h ∙ ap (λ (Y : Set). Y ∖ F x) (above (P .rest) w (graph + x * w) (omega (arith, fit .apart)));
+      others = λ x l h. X .others x l h ∙ above (P .rest) w (graph + x * w) (omega (arith, fit .apart));
+      rest = outside-then (let i = row-inside u n w b in outside-wide spare (graph + n * w) (omega arith) (omega (arith, fit .apart)) (P .rest)) (X .rest);
+    }
+      where
+        X : Struck F u (u + 1) w spare graph n q r
+        X = row-struck (put-as (ap (λ (Y : Set). setAt q w at ∖ Y) (P .here ∙ e)) Q)

@@ -1,0 +1,32 @@
+-- `graph::strike::side` meets its contract.
+use borrow.Author.Needs.{needs}
+use Rattle.graph.proofs.strike.side.Statement.{statement}
+use Rattle.graph.proofs.strike.side.Tie as tie
+
+returns : tie.Need-returns
+returns c =
+    let l = c .before .before .before .before .before in
+    rw (
+      l .before .link-first .ensures .0,
+      l .link-first2 .ensures .0,
+      c .before .before .before .before .rule-kind .ensures .0,
+      c .before .before .before .rule-value .ensures .0,
+      c .before .before .rule-count .ensures .0,
+      c .before .link-count .ensures .0,
+      c .link-count2 .ensures .0,
+    )
+
+pub side-spec : {M : Type 1} → statement M
+side-spec =
+    tie.close
+    (tie.spec
+    (λ c κs. search needs)
+    (λ c κs. search needs)
+    (λ c κs. search needs)
+    (λ c κs. search needs)
+    (λ c κs. search needs)
+    (λ c κs. search needs)
+    (λ c. search needs)
+    (λ c κs. search needs)
+    (λ c. search needs)
+    returns)

@@ -1,0 +1,56 @@
+-- `graph::strike::strike_side` meets its contract. The invariant: the link's rows up to u are struck.
+use borrow.Author.Needs.{needs}
+use Prim.Native.Nat.{_-_, _≤_}
+use mathlib.Core.Path.{_≡_}
+use native.Mathlib.Omega.{arith}
+use lib.ListN.{length}
+use Rattle.graph.specs.Rows.{RowsFit}
+use Rattle.graph.specs.Strikes.{barred, Struck}
+use Rattle.graph.proofs.Strikes.{rows-none, rows-more}
+use Rattle.graph.proofs.Rows.{fit-same}
+use Rattle.graph.proofs.strike.strike_side.Statement.{statement}
+use Rattle.graph.proofs.strike.strike_side.Tie as tie
+
+abbrev Inv-loop : tie.InvT-loop
+Inv-loop part₀ w spare graph n fs ps s u₀ part u =
+    (s .from ≤ u) × (u ≤ s .upto) × RowsFit w spare graph n (length part) × Struck (barred fs ps s) (s .from) u w spare graph n part₀ part
+
+abbrev μ-loop : tie.MeasureT-loop
+μ-loop part₀ w spare graph n fs ps s u₀ part u = s .upto - u
+
+loop-holds : tie.Need-loop-holds Inv-loop μ-loop
+loop-holds c = (search needs, search needs, c .before .before .before .pre .1, rows-none _ _ _ _ _ _ _)
+
+strike-row-requires : tie.Need-strike-row-requires Inv-loop μ-loop
+strike-row-requires c κs =
+    let s = c .before .before .before .before .before .before .before in
+    let l = c .before .before .before .loop in
+    (s .pre .0, l .inv .2, l .inv .0, omega (arith, s .pre .0 .own, c .before .if1 .taken))
+
+loop-again : tie.Need-loop-again Inv-loop μ-loop
+loop-again c =
+    let s = c .before .before .before .before .before .before .before .before .before .before in
+    let l = c .before .before .before .before .before .before .loop in
+    let t = c .before .before .before .before .if1 .taken in
+    let x = c .before .before .strike-row .ensures in
+    (search needs, omega arith, fit-same (l .inv .2) (x .rest), rows-more _ _ _ _ _ _ _ (l .inv .0) (omega (arith, s .pre .0 .own)) (l .inv .3) x)
+
+returns : tie.Need-returns Inv-loop μ-loop
+returns c =
+    let l = c .before .before .loop in
+    let e : l .u ≡ c .before .before .before .before .before .before .args .s .upto = omega arith in
+    rw e at (l .inv .3)
+
+pub strike-side-spec : {M : Type 1} → statement M
+strike-side-spec =
+    tie.close
+    (tie.spec
+    Inv-loop
+    μ-loop
+    loop-holds
+    strike-row-requires
+    (λ c. search needs)
+    (λ c. search needs)
+    loop-again
+    (λ c. c .before .before .loop .inv .3 .rest .len)
+    returns)

@@ -1,0 +1,202 @@
+// What a rule row bars is struck from the rows of its links.
+ghost use mathlib.Core.Path.{_≡_};
+ghost use Prim.Native.Nat.{ℕ, _+_, _-_, _*_, _^_, _<_, _≤_};
+ghost use lib.ListN.{length};
+ghost use Rattle.sets.specs.Sets.{_∩_, _∖_, just};
+ghost use Rattle.sheet.specs.Sheet.{freqBytes, linkBytes, ruleBytes, pairBytes};
+ghost use Rattle.vset.specs.Rows.{setAt, Put};
+ghost use Rattle.graph.specs.Rows.{RowsFit};
+ghost use Rattle.graph.specs.Strikes.{stretch, sideOf, ownPlace, otherPlace, partner, partners, clashing, barred, SideFits, Struck};
+use crate::Side;
+use crate::span::add_span;
+use rules::pairs::agree;
+use rules::pairs::distance;
+use sheet::rows::freq;
+use sheet::rows::link_count;
+use sheet::rows::link_first;
+use sheet::rows::pair_first;
+use sheet::rows::pair_second;
+use sheet::rows::rule_count;
+use sheet::rows::rule_kind;
+use sheet::rows::rule_value;
+use vset::row::clear_row;
+use vset::row::cut_rows;
+use vset::row::row_at;
+use vset::row::take_from_row;
+
+// Rule row j seen from its link a to its link b.
+pub fn side(ls: &[u8], rs: &[u8], j: usize, turned: bool, a: usize, b: usize) -> Side
+    requires { ⌜ (linkBytes * a + linkBytes ≤ length (now ls)) × (linkBytes * b + linkBytes ≤ length (now ls)) × (ruleBytes * j + ruleBytes ≤ length (now rs)) ⌝ }
+    ensures { λ r. ⌜ r ≡ sideOf (now (ls .entry)) (now (rs .entry)) j turned a b ⌝ }
+{
+    let from = link_first(ls, a);
+    let first = link_first(ls, b);
+    Side {
+        kind: rule_kind(rs, j),
+        value: rule_value(rs, j),
+        count: rule_count(rs, j),
+        turned: turned,
+        from: from,
+        upto: from + link_count(ls, a),
+        first: first,
+        end: first + link_count(ls, b),
+    }
+}
+
+// Vertex v is struck from row `to`, where a rule of kind 1 or 2 does not allow it with the frequency x.
+fn strike_one(
+    part: &mut [u64],
+    w: usize,
+    to: usize,
+    fs: &[u8],
+    kind: usize,
+    value: usize,
+    x: usize,
+    v: usize,
+)
+    requires { ⌜ (to + w ≤ length (now part)) × (v < 64 * w) × (freqBytes * v + freqBytes ≤ length (now fs)) ⌝ }
+    ensures { λ r. ⌜ Put (setAt (now (part .entry)) w to ∖ (just v ∩ clashing (now (fs .entry)) kind value x)) w to (now (part .entry)) (now (part .exit)) ⌝ }
+{
+    if agree(kind, value, distance(x, freq(fs, v)), false) {
+        return;
+    }
+    take_from_row(part, w, to, v);
+}
+
+// The vertices from `first` up to `end` that a rule of kind 1 or 2 does not allow with the frequency x are struck from row `to`.
+fn strike_near(
+    part: &mut [u64],
+    w: usize,
+    to: usize,
+    fs: &[u8],
+    kind: usize,
+    value: usize,
+    x: usize,
+    first: usize,
+    end: usize,
+)
+    requires { ⌜ (to + w ≤ length (now part)) × (first ≤ end) × (end ≤ 64 * w) × (freqBytes * end ≤ length (now fs)) ⌝ }
+    ensures { λ r. ⌜ Put (setAt (now (part .entry)) w to ∖ (stretch first end ∩ clashing (now (fs .entry)) kind value x)) w to (now (part .entry)) (now (part .exit)) ⌝ }
+{
+    let mut v = first;
+    while v < end {
+        strike_one(part, w, to, fs, kind, value, x, v);
+        v += 1;
+    }
+}
+
+// The position of pair row i in the list of the struck rows' link.
+fn own_place(ps: &[u8], turned: bool, i: usize) -> usize
+    requires { ⌜ pairBytes * i + pairBytes ≤ length (now ps) ⌝ }
+    ensures { λ r. ⌜ r ≡ ownPlace (now (ps .entry)) turned i ⌝ }
+{
+    if turned {
+        return pair_second(ps, i);
+    }
+    pair_first(ps, i)
+}
+
+// The position of pair row i in the other link's list.
+fn other_place(ps: &[u8], turned: bool, i: usize) -> usize
+    requires { ⌜ pairBytes * i + pairBytes ≤ length (now ps) ⌝ }
+    ensures { λ r. ⌜ r ≡ otherPlace (now (ps .entry)) turned i ⌝ }
+{
+    if turned {
+        return pair_first(ps, i);
+    }
+    pair_second(ps, i)
+}
+
+// The partner of position x by pair row i, if it has one there, is taken from row `to`.
+fn free_partner(
+    part: &mut [u64],
+    w: usize,
+    to: usize,
+    ps: &[u8],
+    turned: bool,
+    first: usize,
+    x: usize,
+    i: usize,
+)
+    requires { ⌜ (to + w ≤ length (now part)) × (pairBytes * i + pairBytes ≤ length (now ps)) × (first + otherPlace (now ps) turned i < 64 * w) × (64 * w < 2 ^ 64) ⌝ }
+    ensures { λ r. ⌜ Put (setAt (now (part .entry)) w to ∖ partner (now (ps .entry)) turned first x i) w to (now (part .entry)) (now (part .exit)) ⌝ }
+{
+    if own_place(ps, turned, i) != x {
+        return;
+    }
+    take_from_row(part, w, to, first + other_place(ps, turned, i));
+}
+
+// Row `to` becomes the vertices of the other link that no pair row of the rule, of kind 3, gives position x as a partner.
+fn mark_unlisted(
+    part: &mut [u64],
+    w: usize,
+    to: usize,
+    fs: &[u8],
+    ps: &[u8],
+    n: usize,
+    s: Side,
+    x: usize,
+)
+    requires { ⌜ SideFits (now fs) (now ps) n s × (s .kind ≡ 3) × (n ≤ 64 * w) × (64 * w < 2 ^ 64) × (to + w ≤ length (now part)) ⌝ }
+    ensures { λ r. ⌜ Put (stretch (s .first) (s .end) ∖ partners (now (ps .entry)) (s .turned) (s .first) x (s .value) (s .count)) w to (now (part .entry)) (now (part .exit)) ⌝ }
+{
+    let value = s.value;
+    let count = s.count;
+    let turned = s.turned;
+    let first = s.first;
+    let end = s.end;
+    clear_row(part, w, to);
+    add_span(part, w, to, first, end);
+    let mut i = 0;
+    while i < count {
+        free_partner(part, w, to, ps, turned, first, x, value + i);
+        i += 1;
+    }
+}
+
+// Row u is struck: a rule of kind 3 by its pairs, with the spare row, any other by the frequencies.
+fn strike_row(
+    part: &mut [u64],
+    w: usize,
+    spare: usize,
+    graph: usize,
+    n: usize,
+    fs: &[u8],
+    ps: &[u8],
+    s: Side,
+    u: usize,
+)
+    requires { ⌜ SideFits (now fs) (now ps) n s × RowsFit w spare graph n (length (now part)) × (s .from ≤ u) × (u < n) ⌝ }
+    ensures { λ r. ⌜ Struck (barred (now (fs .entry)) (now (ps .entry)) s) u (u + 1) w spare graph n (now (part .entry)) (now (part .exit)) ⌝ }
+{
+    let row = row_at(graph, w, u, n);
+    let kind = s.kind;
+    if kind == 3 {
+        mark_unlisted(part, w, spare, fs, ps, n, s, u - s.from);
+        cut_rows(part, w, row, row, spare);
+        return;
+    }
+    strike_near(part, w, row, fs, kind, s.value, freq(fs, u), s.first, s.end);
+}
+
+// The rows of one of the rule's links are struck.
+pub fn strike_side(
+    part: &mut [u64],
+    w: usize,
+    spare: usize,
+    graph: usize,
+    n: usize,
+    fs: &[u8],
+    ps: &[u8],
+    s: Side,
+)
+    requires { ⌜ SideFits (now fs) (now ps) n s × RowsFit w spare graph n (length (now part)) × (s .from ≤ s .upto) ⌝ }
+    ensures { λ r. ⌜ Struck (barred (now (fs .entry)) (now (ps .entry)) s) (s .from) (s .upto) w spare graph n (now (part .entry)) (now (part .exit)) ⌝ }
+{
+    let mut u = s.from;
+    while u < s.upto {
+        strike_row(part, w, spare, graph, n, fs, ps, s, u);
+        u += 1;
+    }
+}

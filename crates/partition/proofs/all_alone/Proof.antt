@@ -1,0 +1,49 @@
+-- `partition::all_alone` meets its contract. The invariant: each vertex below v is adjacent to none of its class, where the masks are there.
+use borrow.Author.Needs.{needs}
+use Prim.Native.Nat.{ℕ, _-_, _≤_, _<_}
+use mathlib.Core.Bool.{Bool, true}
+use mathlib.Core.Path.{_≡_, sym}
+use native.Mathlib.Omega.{arith}
+use lib.Dec.{ltb}
+use borrow.Author.Tests.{ltb-true}
+use Rattle.sets.specs.Below.{all}
+use Rattle.sets.proofs.Below.{all-none, all-out, loop-goes-on, loop-stops, loop-ends}
+use Rattle.vset.specs.Rows.{rowAt}
+use Rattle.partition.specs.Partition.{classOf, free}
+use Rattle.partition.specs.Words.{Rows, members}
+use Rattle.partition.proofs.all_alone.Statement.{statement}
+use Rattle.partition.proofs.all_alone.Tie as tie
+
+abbrev Inv-loop : tie.InvT-loop
+Inv-loop part w masks graph n k cls v₀ v = (v ≤ n) × ((adj : ℕ → ℕ → Bool) → Rows adj w graph n part → ((c : ℕ) → c < k → rowAt part w masks c ≡ members n cls c) → all v (λ (v : ℕ). free n k adj (classOf cls v) cls v) ≡ true)
+
+abbrev μ-loop : tie.MeasureT-loop
+μ-loop part w masks graph n k cls v₀ v = n - v
+
+is-alone-requires : tie.Need-is-alone-requires Inv-loop μ-loop
+is-alone-requires c κs =
+    let a = c .before .before .before .before .args in
+    (c .before .before .before .before .pre .0, c .before .before .before .before .pre .1, c .before .before .before .before .pre .2, c .loop-test .taken, ltb-true _ _ (all-out (a .n) (λ v. ltb (classOf (a .cls .now) v) (a .k)) (c .before .before .before .before .pre .3) (c .before .loop .v) (c .loop-test .taken)))
+
+returns : tie.Need-returns Inv-loop μ-loop
+returns c = record { answer = λ adj R M. sym (loop-stops _ _ _ _ (c .before .before .loop-test .taken) (c .before .is-alone .ensures .answer adj R M) (c .if1 .taken)) }
+
+loop-again : tie.Need-loop-again Inv-loop μ-loop
+loop-again c = (omega arith, λ adj R M. loop-goes-on _ _ _ (c .before .before .before .loop .inv .1 adj R M) (c .before .is-alone .ensures .answer adj R M) (c .if1 .left))
+
+returns-2 : tie.Need-returns-2 Inv-loop μ-loop
+returns-2 c = record { answer = λ adj R M. sym (loop-ends _ _ _ (c .before .loop .inv .0) (c .loop-test .left) (c .before .loop .inv .1 adj R M)) }
+
+pub all-alone-spec : {M : Type 1} → statement M
+all-alone-spec =
+    tie.close
+    (tie.spec
+    Inv-loop
+    μ-loop
+    (λ c. (omega arith, λ adj R M. all-none _))  -- loop-holds
+    is-alone-requires
+    returns
+    (λ c. search needs)  -- add-v
+    (λ c. search needs)  -- loop-less
+    loop-again
+    returns-2)

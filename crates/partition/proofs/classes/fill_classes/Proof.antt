@@ -1,0 +1,41 @@
+-- `partition::classes::fill_classes` meets its contract. The invariant: c classes are filled.
+use borrow.Author.Needs.{needs}
+use Prim.Native.Nat.{_-_}
+use native.Mathlib.Omega.{arith}
+use Rattle.partition.proofs.Filling.{FillingAll, filling-all-none, filling-all-more, filling-all-done, space-stays}
+use Rattle.partition.proofs.classes.fill_classes.Statement.{statement}
+use Rattle.partition.proofs.classes.fill_classes.Tie as tie
+
+abbrev Inv-loop : tie.InvT-loop
+Inv-loop part₀ w graph n k m cls₀ c₀ part cls c = FillingAll w graph n k m part₀ part cls c
+
+abbrev μ-loop : tie.MeasureT-loop
+μ-loop part₀ w graph n k m cls₀ c₀ part cls c = k - c
+
+loop-holds : tie.Need-loop-holds Inv-loop μ-loop
+loop-holds c = filling-all-none (search needs) (rw (c .before .before .before .before .before .before .pre .1) at (c .before .before .unplace .ensures))
+
+fill-class-requires : tie.Need-fill-class-requires Inv-loop μ-loop
+fill-class-requires c κs = (space-stays (c .before .before .before .loop .inv .rest) (c .before .before .before .before .before .before .before .before .before .before .pre .0), c .before .before .before .loop .inv .long, c .before .before .before .before .before .before .before .before .before .before .pre .2, omega arith)
+
+loop-again : tie.Need-loop-again Inv-loop μ-loop
+loop-again c = filling-all-more (c .before .before .before .before .before .before .before .before .loop .inv) (c .before .before .before .before .before .before .before .before .before .before .before .before .before .before .before .pre .0) (c .before .before .before .before .before .before .before .before .before .before .before .before .before .before .before .pre .2) (c .before .before .before .before .before .before .before .loop-test .taken) (c .before .before .before .before .fill-class .ensures) (search needs)
+
+returns : tie.Need-returns Inv-loop μ-loop
+returns c = filling-all-done (c .before .loop .inv) (c .before .before .before .before .before .before .before .before .pre .0) (c .before .before .before .before .before .before .before .before .pre .2) (c .loop-test .left)
+
+pub fill-classes-spec : {M : Type 1} → statement M
+fill-classes-spec =
+    tie.close
+    (tie.spec
+    Inv-loop
+    μ-loop
+    (λ c κs. search needs)  -- unplace-requires
+    loop-holds
+    fill-class-requires
+    (λ c. search needs)  -- add-c
+    (λ c. search needs)  -- loop-less
+    loop-again
+    (λ c. search needs)  -- same-length
+    (λ c. search needs)  -- same-length-2
+    returns)

@@ -1,0 +1,20 @@
+-- `partition::is_alone` meets its contract. The row of v is set against the mask of its class.
+use borrow.Author.Needs.{needs}
+use native.Mathlib.Omega.{arith}
+use Rattle.partition.proofs.Testing.{alone}
+use Rattle.partition.proofs.is_alone.Statement.{statement}
+use Rattle.partition.proofs.is_alone.Tie as tie
+
+returns : tie.Need-returns
+returns c = alone (c .before .before .before .before .before .before .pre .3) (c .before .before .before .before .before .before .pre .4) (c .before .before .before .row-at .ensures) (c .before .row-at2 .ensures) (c .no-common-rows .ensures)
+
+pub is-alone-spec : {M : Type 1} → statement M
+is-alone-spec =
+    tie.close
+    (tie.spec
+    (λ c κs. search needs)  -- row-at-requires
+    (λ c. search needs)  -- shared-slice-read-row-at
+    (λ c. search needs)  -- cast-row-at
+    (λ c κs. search needs)  -- row-at-requires-2
+    (λ c κs. search needs)  -- no-common-rows-requires
+    returns)

@@ -1,0 +1,53 @@
+-- `partition::put_layers` meets its contract. The invariant: the layers of the vertices below v are written.
+use borrow.Author.Needs.{needs}
+use Prim.Native.Nat.{_-_, _≤_}
+use mathlib.Core.Path.{_≡_, refl}
+use mathlib.Core.List.{_++_}
+use native.Mathlib.Omega.{arith}
+use lib.ListN.{length, drop, length-set}
+use Rattle.sets.specs.Below.{tabulate}
+use Rattle.sets.proofs.Lists.{tab-none, tab-more, tab-done}
+use Rattle.rules.specs.Layers.{layerOf}
+use Rattle.partition.specs.Partition.{layersOf}
+use Rattle.partition.proofs.Choice.{layer-small}
+use Rattle.partition.proofs.put_layers.Statement.{statement}
+use Rattle.partition.proofs.put_layers.Tie as tie
+
+abbrev Inv-loop : tie.InvT-loop
+Inv-loop ls n k cls₀ v₀ cls v = (v ≤ n) × (length cls ≡ n) × (cls ≡ tabulate v (layerOf ls k) ++ drop v cls₀)
+
+abbrev μ-loop : tie.MeasureT-loop
+μ-loop ls n k cls₀ v₀ cls v = n - v
+
+loop-holds : tie.Need-loop-holds Inv-loop μ-loop
+loop-holds c = (search needs, search needs, tab-none _ (layerOf (c .before .before .args .ls .now) (c .before .before .args .k)))
+
+cast-cls : tie.Need-cast-cls Inv-loop μ-loop
+cast-cls c = omega (arith, layer-small (c .before .before .before .before .before .args .ls .now) (c .before .before .before .before .before .args .k) (c .before .before .loop .v), c .layer .ensures)
+
+loop-again : tie.Need-loop-again Inv-loop μ-loop
+loop-again c =
+    let a = c .before .before .before .before .before .args in
+    (omega arith, simp length-set (c .before .before .loop .inv .1), tab-more (a .cls .now) (c .before .before .loop .cls) (layerOf (a .ls .now) (a .k)) (c .before .before .loop .v) (c .layer .result) (omega arith) (c .before .before .loop .inv .2) (c .layer .ensures))
+
+returns : tie.Need-returns Inv-loop μ-loop
+unfolding layersOf
+returns c =
+    let a = c .before .before .before .before .args in
+    rw (c .before .before .before .before .pre .1) at (tab-done (a .cls .now) (c .before .loop .cls) (layerOf (a .ls .now) (a .k)) (c .before .loop .v) (omega arith) (c .before .loop .inv .2))
+
+pub put-layers-spec : {M : Type 1} → statement M
+put-layers-spec =
+    tie.close
+    (tie.spec
+    Inv-loop
+    μ-loop
+    loop-holds
+    (λ c κs. search needs)  -- layer-requires
+    cast-cls
+    (λ c. search needs)  -- slice-write-cls
+    (λ c. search needs)  -- add-v
+    (λ c. search needs)  -- loop-less
+    loop-again
+    (λ c. search needs)  -- same-length
+    returns)

@@ -1,0 +1,154 @@
+// Choice 1: classes filled one after another, or the layers where more than k arise.
+// The part has n degrees, then n places of the order, then the row of the class that is filled, then the graph's rows from `graph` on.
+ghost use mathlib.Core.Path.{_≡_};
+ghost use Prim.Native.Nat.{ℕ, _+_, _*_, _<_, _≤_};
+ghost use lib.Dec.{ltb};
+ghost use lib.ListN.{length, getD, replicate};
+ghost use Rattle.sets.specs.Below.{all, tabulate};
+ghost use Rattle.partition.specs.Partition.{classOf};
+ghost use Rattle.partition.specs.Words.{Space, Joined, Filled, AllFilled, Kept, Built};
+use super::degrees::put_degrees;
+use super::degrees::put_order;
+use vset::row::add_to_row;
+use vset::row::clear_row;
+use vset::row::no_common_rows;
+use vset::row::row_at;
+
+// Class c takes v, if it is unplaced, which is written k, and adjacent to none of the class's row.
+fn try_join(
+    part: &mut [u64],
+    w: usize,
+    graph: usize,
+    n: usize,
+    k: usize,
+    c: usize,
+    v: usize,
+    cls: &mut [u8],
+)
+    requires { ⌜ Space w graph n (length (now part)) × (length (now cls) ≡ n) × (c < 256) ⌝ }
+    ensures { λ _. ⌜ Joined w graph n k c v (now (part .entry)) (now (part .exit)) (now (cls .entry)) (now (cls .exit)) ⌝ }
+{
+    if v >= n {
+        return;
+    }
+    if cls[v] as usize != k {
+        return;
+    }
+    let a = row_at(graph, w, v, n);
+    let own = n + n;
+    if !no_common_rows(part, w, a, own) {
+        return;
+    }
+    add_to_row(part, w, own, v);
+    cls[v] = c as u8;
+}
+
+// Class c, which has no member, takes what it can of the m vertices of the order.
+fn fill_class(
+    part: &mut [u64],
+    w: usize,
+    graph: usize,
+    n: usize,
+    k: usize,
+    m: usize,
+    c: usize,
+    cls: &mut [u8],
+)
+    requires { ⌜ Space w graph n (length (now part)) × (length (now cls) ≡ n) × (m ≤ n) × (c < 256) ⌝ }
+    ensures { λ _. ⌜ Filled w graph n k m c (now (part .entry)) (now (part .exit)) (now (cls .entry)) (now (cls .exit)) ⌝ }
+{
+    clear_row(part, w, n + n);
+    let mut i = 0;
+    while i < m {
+        let v = part[n + i] as usize;
+        try_join(part, w, graph, n, k, c, v, cls);
+        i += 1;
+    }
+}
+
+// No vertex is placed: its class is k.
+fn unplace(k: usize, cls: &mut [u8])
+    requires { ⌜ k < 256 ⌝ }
+    ensures { λ _. ⌜ now (cls .exit) ≡ replicate (length (now (cls .entry))) k ⌝ }
+{
+    let mut v = 0;
+    while v < cls.len() {
+        cls[v] = k as u8;
+        v += 1;
+    }
+}
+
+// k classes are filled from the m vertices of the order.
+fn fill_classes(
+    part: &mut [u64],
+    w: usize,
+    graph: usize,
+    n: usize,
+    k: usize,
+    m: usize,
+    cls: &mut [u8],
+)
+    requires { ⌜ Space w graph n (length (now part)) × (length (now cls) ≡ n) × (m ≤ n) × (k < 256) ⌝ }
+    ensures { λ _. ⌜ AllFilled w graph n k m (now (part .entry)) (now (part .exit)) (now (cls .exit)) ⌝ }
+{
+    unplace(k, cls);
+    let mut c = 0;
+    while c < k {
+        fill_class(part, w, graph, n, k, m, c, cls);
+        c += 1;
+    }
+}
+
+// The class list is written into the first words.
+fn keep_classes(cls: &[u8], part: &mut [u64])
+    requires { ⌜ length (now cls) ≤ length (now part) ⌝ }
+    ensures { λ _. ⌜ Kept (now (cls .entry)) (now (part .entry)) (now (part .exit)) ⌝ }
+{
+    let mut v = 0;
+    while v < cls.len() {
+        part[v] = cls[v] as u64;
+        v += 1;
+    }
+}
+
+// The class list that the first words keep.
+fn put_back(part: &[u64], cls: &mut [u8])
+    requires { ⌜ (length (now cls) ≤ length (now part)) × ((v : ℕ) → v < length (now cls) → getD (now part) v 0 < 256) ⌝ }
+    ensures { λ _. ⌜ now (cls .exit) ≡ tabulate (length (now (cls .entry))) (λ v. getD (now (part .entry)) v 0) ⌝ }
+{
+    let mut v = 0;
+    while v < cls.len() {
+        cls[v] = part[v] as u8;
+        v += 1;
+    }
+}
+
+// Whether each of n vertices has a class below k.
+pub fn is_placed(n: usize, k: usize, cls: &[u8]) -> bool
+    requires { ⌜ n ≤ length (now cls) ⌝ }
+    ensures { λ r. ⌜ r ≡ all n (λ v. ltb (classOf (now (cls .entry)) v) k) ⌝ }
+{
+    let mut v = 0;
+    while v < n {
+        if cls[v] as usize >= k {
+            return false;
+        }
+        v += 1;
+    }
+    true
+}
+
+// The classes of choice 1, where cls has the layers.
+pub fn build_classes(part: &mut [u64], w: usize, graph: usize, n: usize, k: usize, cls: &mut [u8])
+    requires { ⌜ Space w graph n (length (now part)) × (length (now cls) ≡ n) × (k < 256) ⌝ }
+    ensures { λ _. ⌜ Built w graph n k (now (part .entry)) (now (part .exit)) (now (cls .entry)) (now (cls .exit)) ⌝ }
+{
+    put_degrees(part, w, graph, n);
+    let m = put_order(part, n);
+    keep_classes(cls, part);
+    fill_classes(part, w, graph, n, k, m, cls);
+    if is_placed(n, k, cls) {
+        return;
+    }
+    put_back(part, cls);
+}

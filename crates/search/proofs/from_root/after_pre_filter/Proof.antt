@@ -1,0 +1,35 @@
+-- `search::from_root::after_pre_filter` meets its contract, way by way.
+use borrow.Author.Needs.{needs}
+use Rattle.search.proofs.Rooted.{layer-empty, class-empty, behind-pre-filter}
+use Rattle.search.proofs.from_root.after_pre_filter.Statement.{statement}
+use Rattle.search.proofs.from_root.after_pre_filter.Tie as tie
+
+returns : tie.Need-returns
+returns c = layer-empty (c .before .before .before .before .before .before .before .before .pre .0) _ (c .before .before .before .before .pre-filter .ensures) (c .before .if1 .taken) (c .no-nodes .ensures)
+
+returns-2 : tie.Need-returns-2
+returns-2 c =
+    class-empty (c .before .before .before .before .before .before .before .before .before .before .before .pre .0) _ (c .before .before .before .before .before .before .before .pre-filter .ensures) (c .before .before .before .before .if1 .left)
+    (c .before .before .is-open .ensures) (c .before .if2 .taken) (c .no-nodes2 .ensures)
+
+returns-3 : tie.Need-returns-3
+returns-3 c =
+    behind-pre-filter (c .before .before .before .before .before .before .before .before .before .before .before .before .before .before .before .before .before .pre .0) _ (c .before .before .before .before .before .before .before .before .before .before .before .before .before .pre-filter .ensures) (c .before .before .before .before .before .before .before .before .before .before .if1 .left)
+    (c .before .before .before .before .before .before .before .before .is-open .ensures) (c .before .before .before .before .before .before .before .if2 .left) (c .before .before .before .before .run .ensures)
+
+pub after-pre-filter-spec : {M : Type 1} → statement M
+after-pre-filter-spec =
+    tie.close
+    (tie.spec
+    (λ c κs. search needs)
+    (λ c κs. search needs)
+    (λ c. search needs)
+    returns
+    (λ c κs. search needs)
+    (λ c κs. search needs)
+    (λ c. search needs)
+    returns-2
+    (λ c κs. search needs)
+    (λ c. search needs)
+    (λ c. search needs)
+    returns-3)
