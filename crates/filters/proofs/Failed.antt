@@ -1,14 +1,14 @@
 -- Failed vertices: what is left is the greatest unit-closed set with no failed vertex, or a class is empty.
 use mathlib.Core.Path.{_≡_, refl, sym, ap, subst, _∙_}
-use mathlib.Core.Bool.{Bool, true, false, not, _&&_, _||_}
+use mathlib.Core.Bool.{true, false, not, _&&_}
 use mathlib.Core.Logic.{_⊎_, inl, inr}
-use Prim.Native.Nat.{ℕ, zero, suc, _+_, _≤_, _<_}
+use Prim.Native.Nat.{ℕ, zero, suc, _≤_, _<_}
 use native.Mathlib.Omega.{arith}
-use lib.Dec.{eqb, ltb, leb}
+use lib.Dec.{eqb, ltb}
 use borrow.Author.Tests.{not-false, eqb-true, eq-eqb, ltb-true, ltb-false}
 use Rattle.sets.specs.Below.{count}
-use Rattle.sets.specs.Sets.{Set, _⊆_, _∩_, _∖_, just}
-use Rattle.sets.proofs.Tests.{clash, and-l, and-r, and-in, or-l, or-r, or-case, not-out, not-in, bool, is-false, case, below}
+use Rattle.sets.specs.Sets.{Set, _⊆_, _∖_, just}
+use Rattle.sets.proofs.Tests.{clash, and-l, and-r, and-in, or-l, or-r, not-out, not-in, bool, is-false, case, below}
 use Rattle.sets.proofs.Below.{count-le, count-less}
 use Rattle.sets.proofs.Sets.{meet-l, meet-in, meet-mono, without-sub, without-ne, without-in}
 use Rattle.cliques.specs.Graph.{Graph, At, two, lower, higher, isOpen}

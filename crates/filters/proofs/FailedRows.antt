@@ -1,269 +1,28 @@
--- Failed vertices in words: a trial on a copy, the two vertices of a class, and rounds.
-use mathlib.Core.Path.{_≡_, refl, sym, ap, ap₂, subst, _∙_, fun-ext}
-use mathlib.Core.Bool.{Bool, true, false, not, _&&_, _||_}
+-- Rounds of trials in words.
+use mathlib.Core.Path.{_≡_, refl, sym, ap, subst, _∙_}
+use mathlib.Core.Bool.{Bool, true, false}
 use mathlib.Core.List.{List}
-use mathlib.Core.Logic.{_⊎_, inl, inr}
-use Prim.Native.Nat.{ℕ, _+_, _-_, _*_, _≤_, _<_}
+use Prim.Native.Nat.{ℕ, _+_, _*_, _≤_, _<_}
 use native.Mathlib.Omega.{arith}
-use native.Mathlib.Decide.{decLt}
 use native.Mathlib.Numerals.{add-one}
-use lib.Dec.{eqb}
-use lib.ListN.{length}
-use borrow.Author.Tests.{eqb-true, eq-eqb, not-false}
-use borrow.Rule.Slice.PartMut.{midOf, putMid}
+use borrow.Author.Tests.{not-false}
 use Rattle.sets.specs.Below.{one, count}
-use Rattle.sets.specs.Sets.{Set, _⊆_, _∩_, _∪_, _∖_, just}
-use Rattle.sets.proofs.Tests.{clash, bool, is-false, and-l, not-in, below as upto}
-use Rattle.sets.proofs.Below.{count-none}
-use Rattle.sets.proofs.Sets.{meet-l, without-sub, count-without}
-use Rattle.vset.specs.Words.{Least}
-use Rattle.vset.specs.Rows.{setAt, rowAt, Outside, Put}
-use Rattle.vset.proofs.Count.{count-gap, count-next}
-use Rattle.vset.proofs.Parts.{tail-set, tail-back}
-use Rattle.vset.proofs.Rows.{above, below, outside-none, outside-then, outside-wide}
-use Rattle.cliques.specs.Graph.{Graph, At, size, two, lower, higher, isOpen}
-use Rattle.cliques.specs.Words.{Held, Node}
-use Rattle.cliques.proofs.Graph.{Pair, size-pos, size-without, without-at, two-pair, pair-two, swap, open-mono}
-use Rattle.cliques.proofs.Words.{held-same, node-less}
-use Rattle.filters.specs.Failed.{alone, refuted, failed}
+use Rattle.sets.specs.Sets.{Set}
+use Rattle.sets.proofs.Tests.{clash, below as upto}
+use Rattle.vset.specs.Rows.{setAt, Outside}
+use Rattle.vset.proofs.Rows.{outside-none, outside-then, outside-wide}
+use Rattle.cliques.specs.Graph.{Graph, isOpen}
+use Rattle.cliques.specs.Words.{Node}
+use Rattle.cliques.proofs.Graph.{pair-two}
+use Rattle.cliques.proofs.Words.{node-less}
+use Rattle.filters.specs.Failed.{refuted, failed}
 use Rattle.filters.specs.Filtered.{Filtered}
-use Rattle.filters.specs.Step.{OnTheWay, Stepped, Stands, BothStand, AllStand}
+use Rattle.filters.specs.Step.{OnTheWay, Stepped, BothStand, AllStand}
 use Rattle.filters.specs.Unit.{unit}
-use Rattle.filters.specs.declared.Step.{Step}
 use Rattle.filters.specs.declared.Step.the-variants.{Shut, Open}
-use Rattle.filters.proofs.Failed.{Firm, Closed, refuted-out, failed-greatest}
-use Rattle.filters.proofs.Masks.{row-member, seen-at, at-seen, size-words}
+use Rattle.filters.proofs.Failed.{Firm, Closed, failed-greatest}
 use Rattle.filters.proofs.Promise.{way-start, way-in, way-on, way-ends, way-shut, shut-start}
-use Rattle.filters.proofs.Steps.{not-shut, open-is, step-none, step-shut, step-says, steps-shut, steps-then}
 use Rattle.filters.proofs.Unit.{UnitClosed, unit-greatest}
-
--- the words of a part from the next row on hold the same graph
-held-tail : {G : Graph} {w masks graph n k : ℕ} {p : List ℕ} → w ≤ length p → w ≤ masks → w ≤ graph → Held G w masks graph n k p
-    → Held G w (masks - w) (graph - w) n k (midOf w (length p - w) p)
-held-tail {G} {w} {masks} {graph} {n} {k} {p} l a b H = record {
-  size = H .size;
-  classes = H .classes;
-  mask = λ c v i j. let e : w + (masks - w + c * w) ≡ masks + c * w = omega arith in
-      ap (λ (X : Set). X v) (tail-set w p l w (masks - w + c * w) ∙ ap (setAt p w) e) ∙ H .mask c v i j;
-  edge = λ u v i j. let e : w + (graph - w + u * w) ≡ graph + u * w = omega arith in
-      ap (λ (X : Set). X v) (tail-set w p l w (graph - w + u * w) ∙ ap (setAt p w) e) ∙ H .edge u v i j;
-  sy = H .sy;
-  apart = H .apart;
-  few = H .few;
-}
-
--- a alone in its class
-alone-words : {G : Graph} {d w masks graph n k : ℕ} {p : List ℕ} → Node G d w masks graph n k p → (c a : ℕ) → c < k → At G c a (setAt p w 0)
-    → (setAt p w 0 ∖ rowAt p w masks c) ∪ just a ≡ alone G a (setAt p w 0)
-unfolding _∩_ _∪_ _∖_ just alone
-alone-words {G} {d} {w} {masks} {graph} {n} {k} {p} N c a l h = fun-ext (λ u. bool (eqb u a) (same u) (other u))
-  where
-    L : Set
-    L = setAt p w 0
-
-    or-true : (x : Bool) → (x || true) ≡ true
-    or-true true = refl
-    or-true false = refl
-
-    or-no : (x : Bool) → (x || false) ≡ x
-    or-no true = refl
-    or-no false = refl
-
-    same : (u : ℕ) → eqb u a ≡ true → ((L u && not (rowAt p w masks c u)) || eqb u a) ≡ (L u && (not (eqb (G .cls u) (G .cls a)) || eqb u a))
-    same u e =
-        let q = eqb-true u a e in
-        let t : L u ≡ true = ap L q ∙ h .live in
-        rw (e, t) (or-true (not (rowAt p w masks c u)) ∙ sym (or-true (not (eqb (G .cls u) (G .cls a)))))
-
-    other : (u : ℕ) → eqb u a ≡ false → ((L u && not (rowAt p w masks c u)) || eqb u a) ≡ (L u && (not (eqb (G .cls u) (G .cls a)) || eqb u a))
-    other u e = rw e (or-no (L u && not (rowAt p w masks c u)) ∙ bool (L u)
-        (λ t. let i = N .live u t .0 in ap (λ (b : Bool). L u && b) (ap not (N .held .mask c u l (omega (arith, N .held .size)) ∙ ap (eqb (G .cls u)) (sym (h .cl)))
-        ∙ sym (or-no (not (eqb (G .cls u) (G .cls a))))))
-        (λ t. rw t refl))
-
-alone-less : (G : Graph) (a : ℕ) (L : Set) → alone G a L ⊆ L
-unfolding alone
-alone-less G a L = meet-l L _
-
--- the two live vertices of a class
-module _ (G : Graph) (c : ℕ) (L : Set) where
-  pair-with : {a : ℕ} → two G c L ≡ true → At G c a L → (b : ℕ) × Pair G c a b L
-  pair-with {a} t h = let p = two-pair G c L t in go p (p .only a h)
-    where
-      go : Pair G c (lower G c L) (higher G c L) L → (a ≡ lower G c L) ⊎ (a ≡ higher G c L) → (b : ℕ) × Pair G c a b L
-      go p (inl e) = (higher G c L, subst (λ (x : ℕ). Pair G c x (higher G c L) L) (sym e) p)
-      go p (inr e) = (lower G c L, subst (λ (x : ℕ). Pair G c x (lower G c L) L) (sym e) (swap G p))
-
-  third : (a b v : ℕ) → two G c L ≡ true → At G c a L → At G c b L → (a ≡ b → ⊥) → At G c v L → (v ≡ a) ⊎ (v ≡ b)
-  unfolding two
-  third a b v t x y ne z = bool (eqb v a) (λ e. inl (eqb-true v a e)) (λ e. bool (eqb v b) (λ f. inr (eqb-true v b f)) (λ f.
-      let s = eqb-true (size G c L) 2 t in
-      let i = size-without G c a L x in
-      let j = size-without G c b (L ∖ just a) (without-at G y (λ q. ne (sym q))) in
-      let k = size-pos G c v _ (without-at G (without-at G z (λ q. clash (eqb v a) (eq-eqb v a q) e)) (λ q. clash (eqb v b) (eq-eqb v b q) f)) in
-      absurd (omega arith)))
-
--- the strikes of a refuted trial, and unit steps, are strikes of the filter
-module _ (G : Graph) (d : ℕ) (L : Set) where
-  unit-way : OnTheWay G (failed G) d L (unit G d L)
-  unit-way = way-in G (Closed G) (failed G) (failed-greatest G) d L (unit G d L) (unit-greatest G .strikes d L) (λ S o z s. unit-greatest G .keeps d L S o (z .0) s)
-
-  trial-way : (c a : ℕ) → d ≤ c → c < G .k → two G c L ≡ true → At G c a L → refuted G d a L ≡ true → OnTheWay G (failed G) d L (unit G d (L ∖ just a))
-  trial-way c a l r t h f = let p = pair-with G c L t h in
-      way-in G (Closed G) (failed G) (failed-greatest G) d L _ (λ v i. without-sub a L v (unit-greatest G .strikes d (L ∖ just a) v i))
-      (λ S o z s. unit-greatest G .keeps d (L ∖ just a) S o (z .0) (refuted-out G d c a (p .0) L S l r (p .1) f o z s))
-
--- `trial`
-module _ (a : ℕ) {d w masks graph n k c m : ℕ} {p p₁ p₂ ys : List ℕ} {r : Bool}
-    (A : w + w + w + w ≤ masks) (B : w + w + w + w ≤ graph) (wide : n ≤ 64 * w) (fits : w ≤ length p₂) (f : d ≤ c) (l : c < k) (e : m ≡ masks + c * w)
-    (num : count (64 * w) (setAt p w 0 ∩ rowAt p w masks c) ≡ 2) (live : (setAt p w 0 ∩ rowAt p w masks c) a ≡ true)
-    (x : Put (setAt p w 0 ∖ setAt p w m) w w p p₁) (y : Put (setAt p₁ w w ∪ just a) w w p₁ p₂)
-    (z : Filtered unit (w + w) d w (masks - w) (graph - w) n k (midOf w (length p₂ - w) p₂) ys r) where
-  out₂ : Outside w (w + w) p p₂
-  out₂ = outside-then (x .rest) (y .rest)
-
-  out₃ : Outside w (w + (w + w)) p (putMid w (length p₂ - w) p₂ ys)
-  out₃ = outside-then (outside-wide w (w + (w + w)) (omega arith) (omega arith) out₂) (tail-back w p₂ fits (z .rest))
-
-  own₃ : setAt (putMid w (length p₂ - w) p₂ ys) w 0 ≡ setAt p w 0
-  own₃ = below out₃ w 0 (omega arith)
-
-  copy : (G : Graph) → Node G d w masks graph n k p → setAt (midOf w (length p₂ - w) p₂) w 0 ≡ alone G a (setAt p w 0)
-  copy G N =
-      let q : w + 0 ≡ w = omega arith in
-      tail-set w p₂ fits w 0 ∙ ap (setAt p₂ w) q ∙ y .here ∙ ap (λ (X : Set). X ∪ just a) (x .here ∙ ap (λ (i : ℕ). setAt p w 0 ∖ setAt p w i) e)
-      ∙ alone-words N c a l (seen-at N c a l live)
-
-  opens : (G : Graph) → Node G d w masks graph n k p → r ≡ isOpen G d (unit G d (alone G a (setAt p w 0)))
-  opens G N =
-      let M : Node G d w (masks - w) (graph - w) n k (midOf w (length p₂ - w) p₂) = record {
-        held = held-tail fits (omega arith) (omega arith) (held-same out₂ (omega arith) (omega arith) (N .held));
-        live = λ v t. N .live v (alone-less G a (setAt p w 0) v (sym (ap (λ (X : Set). X v) (copy G N)) ∙ t));
-      } in
-      z .opens G M ∙ ap (λ (X : Set). isOpen G d (unit G d X)) (copy G N)
-
-  pub trial-stands : r ≡ true → Stepped failed (λ G. Stands G d a) (w + w + w + w) d w masks graph n k p (putMid w (length p₂ - w) p₂ ys) (Open false)
-  unfolding refuted
-  trial-stands o = record {
-    rest = outside-wide 0 (w + w + w + w) (omega arith) (omega arith) out₃;
-    shut = λ t. not-shut false t;
-    way = λ b t G N. rw own₃ (way-start G (Closed G) (failed G) (failed-greatest G) d (setAt p w 0));
-    fewer = λ t. clash false (open-is false true t) refl;
-    same = λ t. own₃;
-    settled = λ t G N. rw (sym (opens G N) ∙ o) refl;
-  }
-
-  module _ {p₄ p₅ : List ℕ} {r₂ : Bool} (o : r ≡ false)
-      (v : Put (setAt (putMid w (length p₂ - w) p₂ ys) w 0 ∖ just a) w 0 (putMid w (length p₂ - w) p₂ ys) p₄)
-      (u : Filtered unit (w + w) d w masks graph n k p₄ p₅ r₂) where
-    own₄ : setAt p₄ w 0 ≡ setAt p w 0 ∖ just a
-    own₄ = v .here ∙ ap (λ (X : Set). X ∖ just a) own₃
-
-    out₄ : Outside 0 (w + w + w + w) p p₄
-    out₄ = outside-then (outside-wide 0 (w + w + w + w) (omega arith) (omega arith) out₃) (outside-wide 0 (w + w + w + w) (omega arith) (omega arith) (v .rest))
-
-    out₅ : Outside 0 (w + w + w + w) p p₅
-    out₅ = outside-then out₄ (outside-wide 0 (w + w + w + w) (omega arith) (omega arith) (u .rest))
-
-    node₄ : (G : Graph) → Node G d w masks graph n k p → Node G d w masks graph n k p₄
-    node₄ G N = node-less out₄ A B (λ j h. without-sub a (setAt p w 0) j (sym (ap (λ (X : Set). X j) own₄) ∙ h)) N
-
-    way₄ : (G : Graph) → Node G d w masks graph n k p → OnTheWay G (failed G) d (setAt p w 0) (unit G d (setAt p w 0 ∖ just a))
-    unfolding refuted two
-    way₄ G N = trial-way G d (setAt p w 0) c a f (omega (arith, N .held .classes)) (eq-eqb (size G c (setAt p w 0)) 2 (sym (size-words N c l wide) ∙ num)) (seen-at N c a l live)
-        (not-in (sym (opens G N) ∙ o))
-
-    pub trial-struck : r₂ ≡ true → (r₂ ≡ true → count (64 * w) (setAt p₅ w 0) ≤ count (64 * w) (setAt p₄ w 0))
-        → Stepped failed (λ G. Stands G d a) (w + w + w + w) d w masks graph n k p p₅ (Open true)
-    trial-struck i no-more = record {
-      rest = out₅;
-      shut = λ t. not-shut true t;
-      way = λ b t G N. rw (u .says G (node₄ G N) i, own₄) (way₄ G N);
-      fewer = λ t. let h = meet-l (setAt p w 0) (rowAt p w masks c) a live in
-          omega (arith, no-more i, ap (count (64 * w)) own₄, count-without (64 * w) (setAt p w 0) a (row-member p w 0 a h) h);
-      same = λ t. clash true refl (open-is true false t);
-      settled = λ t. clash true refl (open-is true false t);
-    }
-
-    pub trial-shut : r₂ ≡ false → Stepped failed (λ G. Stands G d a) (w + w + w + w) d w masks graph n k p p₅ Shut
-    trial-shut i = step-shut failed Closed failed-greatest A B out₅ (λ G N.
-        way-shut G (Closed G) (failed G) (failed-greatest G) d _ _ (way₄ G N)
-        (shut-start G (Closed G) (failed G) (failed-greatest G) d _ (ap (λ (X : Set). isOpen G d (unit G d X)) (sym own₄) ∙ sym (u .opens G (node₄ G N)) ∙ i)))
-
--- `try_class`
-
-least-one : {S : Set} {m a : ℕ} → 0 < count m S → Least S 0 m a → a < m
-least-one {S} {m} {a} h L = go (decLt a m)
-  where
-    go : Dec (a < m) → a < m
-    go (yes l) = l
-    go (no l) = absurd (omega (arith, count-none m S (λ i b t. clash (S i) t (L .none i (omega arith) (omega arith)))))
-
-least-two : {S : Set} {m a b : ℕ} → count m S ≡ 2 → Least S 0 m a → Least S (a + 1) m b → b < m
-least-two {S} {m} {a} {b} h L M = go (decLt b m)
-  where
-    go : Dec (b < m) → b < m
-    go (yes l) = l
-    go (no l) =
-        let i = least-one (omega arith) L in
-        let z = count-none a S (λ i c t. clash (S i) t (L .none i (omega arith) c)) in
-        absurd (omega (arith, count-gap S (a + 1) m (omega arith) (λ v c e. M .none v c (omega arith)), count-next S a (L .found i)))
-
-module _ (w : ℕ) (p : List ℕ) {d masks graph n k c m x : ℕ}
-    (A : w + w + w + w ≤ masks) (B : w + w + w + w ≤ graph) (wide : n ≤ 64 * w) (f : d ≤ c) (l : c < k) (e : m ≡ masks + c * w)
-    (y : x ≡ count (64 * w) (setAt p w 0 ∩ setAt p w m)) where
-  num : x ≡ count (64 * w) (setAt p w 0 ∩ rowAt p w masks c)
-  num = y ∙ ap (λ (i : ℕ). count (64 * w) (setAt p w 0 ∩ setAt p w i)) e
-
-  pub class-none : (x ≡ 2 → ⊥) → Stepped failed (λ G. BothStand G d c) (w + w + w + w) d w masks graph n k p p (Open false)
-  unfolding two
-  class-none h = step-none failed Closed failed-greatest A B (λ G N t. absurd (h (num ∙ size-words N c l wide ∙ eqb-true (size G c (setAt p w 0)) 2 t)))
-
-  module _ (z : x ≡ 2) where
-    pub two-live : count (64 * w) (setAt p w 0 ∩ rowAt p w masks c) ≡ 2
-    two-live = sym num ∙ z
-
-    is-two : (G : Graph) → Node G d w masks graph n k p → two G c (setAt p w 0) ≡ true
-    unfolding two
-    is-two G N = eq-eqb (size G c (setAt p w 0)) 2 (sym (size-words N c l wide) ∙ two-live)
-
-    module _ {a : ℕ} (L : Least (setAt p w 0 ∩ setAt p w m) 0 (64 * w) a) where
-      pub lower-inside : a < 64 * w
-      lower-inside = least-one (omega arith) L
-
-      pub lower-live : (setAt p w 0 ∩ rowAt p w masks c) a ≡ true
-      lower-live = subst (λ (i : ℕ). (setAt p w 0 ∩ setAt p w i) a ≡ true) e (L .found lower-inside)
-
-      -- the lower stands, so that there are two still
-      module _ {q : List ℕ} (S : Stepped failed (λ G. Stands G d a) (w + w + w + w) d w masks graph n k p q (Open false)) where
-        same : setAt q w 0 ∩ rowAt q w masks c ≡ setAt p w 0 ∩ rowAt p w masks c
-        same = ap₂ (λ (X Y : Set). X ∩ Y) (S .same refl) (above (S .rest) w (masks + c * w) (omega arith))
-
-        pub still-two : count (64 * w) (setAt q w 0 ∩ rowAt q w masks c) ≡ 2
-        still-two = ap (count (64 * w)) same ∙ two-live
-
-        module _ {b : ℕ} (M : Least (setAt q w 0 ∩ setAt q w m) (a + 1) (64 * w) b) where
-          next : Least (setAt p w 0 ∩ setAt p w m) (a + 1) (64 * w) b
-          next = subst (λ (X : Set). Least X (a + 1) (64 * w) b) (ap (λ (i : ℕ). setAt q w 0 ∩ setAt q w i) e ∙ same ∙ ap (λ (i : ℕ). setAt p w 0 ∩ setAt p w i) (sym e)) M
-
-          higher-here : (setAt p w 0 ∩ rowAt p w masks c) b ≡ true
-          higher-here = subst (λ (i : ℕ). (setAt p w 0 ∩ setAt p w i) b ≡ true) e (next .found (least-two (sym y ∙ z) L next))
-
-          pub higher-live : (setAt q w 0 ∩ rowAt q w masks c) b ≡ true
-          higher-live = ap (λ (X : Set). X b) same ∙ higher-here
-
-          both : (G : Graph) → Node G d w masks graph n k p → Stands G d a (setAt p w 0) × Stands G d b (setAt p w 0) → BothStand G d c (setAt p w 0)
-          both G N h t v i = go (third G c (setAt p w 0) a b v t (seen-at N c a l lower-live) (seen-at N c b l higher-here) (λ q. omega (arith, M .after)) i)
-            where
-              go : (v ≡ a) ⊎ (v ≡ b) → Stands G d v (setAt p w 0)
-              go (inl q) = rw q (h .0)
-              go (inr q) = rw q (h .1)
-
-          pub both-tried : {q₂ : List ℕ} (r : Step) → Stepped failed (λ G. Stands G d b) (w + w + w + w) d w masks graph n k q q₂ r
-              → Stepped failed (λ G. BothStand G d c) (w + w + w + w) d w masks graph n k p q₂ r
-          both-tried Shut T = steps-shut failed Closed failed-greatest A B false S T
-          both-tried (Open i) T = step-says failed Closed failed-greatest A B both
-              (steps-then failed Closed failed-greatest A B false S {Q = λ G L. Stands G d a L × Stands G d b L} i (λ G L u v. (u, v)) T)
 
 -- `round`: the classes below c have had their turn
 abbrev pub StandTo : ℕ → ℕ → Graph → Set → Type 0
@@ -271,6 +30,10 @@ StandTo d c G L = (x : ℕ) → d ≤ x → x < c → BothStand G d x L
 
 pub stand-more : (d c : ℕ) (G : Graph) (L : Set) → StandTo d c G L → BothStand G d c L → StandTo d (c + 1) G L
 stand-more d c G L f h x a b = upto x c (rw add-one at b) (f x a) (λ e. subst (λ (y : ℕ). BothStand G d y L) (sym e) h)
+
+-- unit steps are strikes of the filter
+unit-way : (G : Graph) (d : ℕ) (L : Set) → OnTheWay G (failed G) d L (unit G d L)
+unit-way G d L = way-in G (Closed G) (failed G) (failed-greatest G) d L (unit G d L) (unit-greatest G .strikes d L) (λ S o z s. unit-greatest G .keeps d L S o (z .0) s)
 
 -- `failed`: rounds were made, and the last has struck or not
 

@@ -1,8 +1,8 @@
 -- A part that was filtered, from what was done to its rows.
 use mathlib.Core.Path.{_≡_, sym, ap, _∙_}
-use mathlib.Core.Bool.{Bool, true}
+use mathlib.Core.Bool.{Bool}
 use mathlib.Core.List.{List}
-use Prim.Native.Nat.{ℕ, _+_, _≤_}
+use Prim.Native.Nat.{ℕ, _≤_}
 use native.Mathlib.Omega.{arith}
 use Rattle.sets.specs.Sets.{Set, _⊆_}
 use Rattle.vset.specs.Rows.{setAt, Outside}

@@ -5,6 +5,7 @@ pub mod SweepRows
 pub mod PreFilterRows
 pub mod Steps
 pub mod UnitRows
+pub mod TrialRows
 pub mod FailedRows
 pub mod Promise
 pub mod Sweep

@@ -2,21 +2,21 @@
 use mathlib.Core.Path.{_≡_, sym, ap, _∙_}
 use mathlib.Core.Bool.{Bool, true, false, _&&_}
 use mathlib.Core.List.{List}
-use Prim.Native.Nat.{ℕ, _*_, _≤_, _<_}
+use Prim.Native.Nat.{ℕ, _+_, _*_, _≤_, _<_}
 use native.Mathlib.Decide.{decLt}
 use native.Mathlib.Omega.{arith}
 use lib.Dec.{eqb}
 use borrow.Author.Tests.{eqb-true, eq-eqb}
 use Rattle.sets.specs.Below.{count}
-use Rattle.sets.specs.Sets.{Set, _∩_}
+use Rattle.sets.specs.Sets.{_∩_}
 use Rattle.sets.proofs.Tests.{clash, is-false}
 use Rattle.sets.proofs.Below.{count-same}
 use Rattle.sets.proofs.Sets.{meet-l, meet-r, meet-in}
-use Rattle.vset.specs.Rows.{setAt, rowAt}
+use Rattle.vset.specs.Rows.{setAt, rowAt, Begins}
 use Rattle.vset.proofs.Count.{count-gap}
 use Rattle.vset.proofs.Rows.{set-past}
 use Rattle.cliques.specs.Graph.{Graph, At, inClass, size, some, isOpen}
-use Rattle.cliques.specs.Words.{Node}
+use Rattle.cliques.specs.Words.{Room, Node}
 use Rattle.cliques.proofs.Graph.{some-in, lower-at, open-in, open-out}
 
 -- a vertex of a row is one that its words have a bit for
@@ -57,3 +57,24 @@ module _ {G : Graph} {d w masks graph n k : ℕ} {p : List ℕ} (N : Node G d w 
       count-gap (setAt p w 0 ∩ rowAt p w masks c) n (64 * w) h (λ v a b. is-false _ (λ t. let r = N .live v (meet-l (setAt p w 0) (rowAt p w masks c) v t) .0 in omega (arith, N .held .size)))
       ∙ count-same n _ _ (λ v m. ap (λ (b : Bool). setAt p w 0 v && b) (N .held .mask c v l m))
       ∙ ap (λ (j : ℕ). count j (λ v. setAt p w 0 v && eqb (G .cls v) c)) (sym (N .held .size))
+
+-- the live vertices of class c were counted: its mask is at m, and x of its vertices are live
+pub record Counted (s w masks graph n k c m x : ℕ) (p : List ℕ) : Type 0 where
+  pub masks-after : s ≤ masks
+  pub graph-after : s ≤ graph
+  pub wide : n ≤ 64 * w
+  pub upto : c < k
+  pub mask : m ≡ masks + c * w
+  pub is : x ≡ count (64 * w) (setAt p w 0 ∩ setAt p w m)
+
+pub counted : (w : ℕ) (p : List ℕ) {s masks graph n k c m x len : ℕ} → Room s w masks graph n k len → c < k → Begins masks w c k m
+    → x ≡ count (64 * w) (setAt p w 0 ∩ setAt p w m) → Counted s w masks graph n k c m x p
+counted w p R l b h = record { masks-after = R .masks-after; graph-after = R .graph-after; wide = R .wide; upto = l; mask = b .here; is = h }
+
+module _ {s w masks graph n k c m x : ℕ} {p : List ℕ} (C : Counted s w masks graph n k c m x p) where
+  -- in the mask is in the row at m
+  pub in-mask : setAt p w 0 ∩ setAt p w m ≡ setAt p w 0 ∩ rowAt p w masks c
+  in-mask = ap (λ (i : ℕ). setAt p w 0 ∩ setAt p w i) (C .mask)
+
+  pub counted-size : {G : Graph} {d : ℕ} → Node G d w masks graph n k p → size G c (setAt p w 0) ≡ x
+  counted-size N = sym (size-words N c (C .upto) (C .wide)) ∙ sym (ap (count (64 * w)) in-mask) ∙ sym (C .is)

@@ -2,13 +2,12 @@
 use mathlib.Core.Path.{_≡_, refl, sym, ap, ap₂, _∙_, fun-ext}
 use mathlib.Core.Bool.{Bool, true, false, _&&_, _||_}
 use mathlib.Core.List.{List}
-use Prim.Native.Nat.{ℕ, zero, suc, _+_, _*_, _≤_, _<_}
+use Prim.Native.Nat.{ℕ, _+_, _*_, _≤_, _<_}
 use native.Mathlib.Numerals.{add-one}
 use native.Mathlib.Omega.{arith}
 use lib.Dec.{eqb}
-use Rattle.sets.specs.Sets.{Set, _⊆_, _∩_, _∪_}
+use Rattle.sets.specs.Sets.{Set, _∩_, _∪_}
 use Rattle.sets.proofs.Tests.{bool}
-use Rattle.sets.proofs.Sets.{meet-l}
 use Rattle.vset.specs.Rows.{setAt, rowAt, Outside, Put}
 use Rattle.vset.proofs.Rows.{above, below, outside-none, outside-then, outside-wide}
 use Rattle.cliques.specs.Graph.{Graph, isOpen}

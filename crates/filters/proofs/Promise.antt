@@ -1,6 +1,6 @@
 -- Cliques as sets, and filters that leave the greatest set with a property: such a filter keeps its promise, and two of them agree,
 -- whatever the order of their strikes.
-use mathlib.Core.Path.{_≡_, refl, sym, ap, subst, _∙_, fun-ext}
+use mathlib.Core.Path.{_≡_, sym, ap, subst, _∙_, fun-ext}
 use mathlib.Core.Bool.{true, false, _&&_}
 use Prim.Native.Nat.{ℕ, _≤_, _<_}
 use lib.Dec.{eqb, ltb, leb}

@@ -1,13 +1,13 @@
 -- The colour sweep keeps its promise.
-use mathlib.Core.Path.{_≡_, refl, sym, ap, subst, _∙_}
-use mathlib.Core.Bool.{Bool, true, false, not, _&&_, _||_}
+use mathlib.Core.Path.{_≡_}
+use mathlib.Core.Bool.{true, not, _&&_, _||_}
 use mathlib.Core.Logic.{_⊎_, inl, inr}
-use Prim.Native.Nat.{ℕ, zero, suc, _+_, _≤_, _<_}
+use Prim.Native.Nat.{ℕ, zero, suc, _≤_, _<_}
 use native.Mathlib.Omega.{arith}
-use lib.Dec.{eqb, ltb, leb}
+use lib.Dec.{eqb, ltb}
 use borrow.Author.Tests.{eqb-true, eq-eqb, ltb-false}
 use Rattle.sets.specs.Below.{all, any}
-use Rattle.sets.specs.Sets.{Set, _⊆_, _∩_}
+use Rattle.sets.specs.Sets.{Set, _⊆_}
 use Rattle.sets.proofs.Tests.{and-l, and-r, and-in, or-l, or-r, or-case, not-in, bool}
 use Rattle.sets.proofs.Below.{any-in, any-mono, all-in, all-out}
 use Rattle.sets.proofs.Sets.{meet-l, meet-in, meet-mono}

@@ -1,7 +1,7 @@
 -- The colour sweep as the code has it: class by class, each strikes in all later classes whoever has no live neighbour in it. `push` is what is left
 -- after the classes below e have struck, said with the whole sweep S: when a class strikes, it is already as S leaves it.
 use mathlib.Core.Path.{_≡_, refl, sym, ap, ap₂, _∙_, fun-ext}
-use mathlib.Core.Bool.{Bool, true, false, not, _&&_, _||_}
+use mathlib.Core.Bool.{Bool, true, false, _&&_, _||_}
 use mathlib.Core.List.{List}
 use mathlib.Core.Logic.{_⊎_, inl, inr}
 use Prim.Native.Nat.{ℕ, zero, suc, _+_, _-_, _*_, _≤_, _<_}

@@ -13,7 +13,6 @@ use Rattle.cliques.proofs.Graph.{open-mono}
 use Rattle.cliques.proofs.Words.{node-less}
 use Rattle.filters.specs.Failed.{failed}
 use Rattle.filters.specs.Filtered.{Filtered}
-use Rattle.filters.specs.Promise.{Filter}
 use Rattle.filters.specs.Sweep.{sweep}
 use Rattle.filters.specs.Switches.{switched, idle, on, atNode}
 use Rattle.filters.proofs.Failed.{failed-promise}

@@ -6,8 +6,6 @@ use Rattle.sets.specs.Sets.{Set, _⊆_}
 use Rattle.sets.proofs.Tests.{clash}
 use Rattle.cliques.specs.Graph.{Graph}
 use Rattle.filters.specs.Promise.{Filter, Refines, Promise}
-use Rattle.filters.specs.Sweep.{sweep}
-use Rattle.filters.specs.Failed.{failed}
 use Rattle.filters.specs.Switches.{switched, idle, on, atNode, Adds}
 use Rattle.cliques.proofs.Graph.{open-mono}
 use Rattle.filters.proofs.Sweep.{sweep-promise}

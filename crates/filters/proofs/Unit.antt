@@ -1,13 +1,13 @@
 -- Unit steps leave the greatest unit-closed set, or a class empty.
-use mathlib.Core.Path.{_≡_, refl, sym, ap, subst, _∙_}
-use mathlib.Core.Bool.{Bool, true, false, not, _&&_, _||_}
+use mathlib.Core.Path.{_≡_, refl, sym, subst, _∙_}
+use mathlib.Core.Bool.{Bool, true, false, not, _||_}
 use mathlib.Core.Logic.{_⊎_, inl, inr}
-use Prim.Native.Nat.{ℕ, zero, suc, _+_, _≤_, _<_}
+use Prim.Native.Nat.{ℕ, zero, suc, _≤_, _<_}
 use native.Mathlib.Omega.{arith}
 use lib.Dec.{eqb, ltb, leb}
 use borrow.Author.Tests.{eqb-true, eq-eqb, ltb-true, ltb-false, leb-true, le-leb}
 use Rattle.sets.specs.Below.{any, count}
-use Rattle.sets.specs.Sets.{Set, _⊆_, _∩_, _∪_, just, nothing}
+use Rattle.sets.specs.Sets.{Set, _⊆_, _∪_, just, nothing}
 use Rattle.sets.proofs.Tests.{clash, and-l, and-r, and-in, or-l, or-r, or-case, not-out, not-in, bool, case}
 use Rattle.sets.proofs.Below.{first-lt, first-is, any-no, count-le, count-less, count-pos}
 use Rattle.sets.proofs.Sets.{meet-l, meet-r, meet-in}

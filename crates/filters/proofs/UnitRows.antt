@@ -8,25 +8,25 @@ use native.Mathlib.Numerals.{add-one}
 use lib.Dec.{eqb, ltb}
 use borrow.Author.Tests.{eqb-true, eq-eqb, ltb-true}
 use Rattle.sets.specs.Below.{one, count}
-use Rattle.sets.specs.Sets.{Set, _⊆_, _∩_, _∪_, _∖_}
+use Rattle.sets.specs.Sets.{Set, _∩_, _∪_, _∖_}
 use Rattle.sets.proofs.Tests.{clash, bool, is-false, below as upto}
 use Rattle.sets.proofs.Below.{count-less}
-use Rattle.sets.proofs.Sets.{meet-l, meet-r, meet-in}
+use Rattle.sets.proofs.Sets.{meet-l, meet-r}
 use Rattle.vset.specs.Words.{Least, Emptiness}
 use Rattle.vset.specs.Rows.{setAt, rowAt, Outside, Put}
-use Rattle.vset.proofs.Rows.{above, below, outside-none, outside-then, outside-wide}
+use Rattle.vset.proofs.Rows.{below, outside-none, outside-then, outside-wide}
 use Rattle.vset.proofs.Sets.{meet-self}
 use Rattle.cliques.specs.Graph.{Graph, size, some, lone, lower, isOpen}
 use Rattle.cliques.specs.Words.{Node}
-use Rattle.cliques.proofs.Graph.{size-pos, size-some, some-in, lower-at, lone-sole, open-in, open-out}
+use Rattle.cliques.proofs.Graph.{size-pos, size-some, lower-at, lone-sole, open-in, open-out}
 use Rattle.cliques.proofs.Words.{node-less}
 use Rattle.filters.specs.Filtered.{Filtered}
 use Rattle.filters.specs.Step.{OnTheWay, Stepped, StruckOthers, Calm, Rests}
 use Rattle.filters.specs.Unit.{stays, strike, unit}
 use Rattle.filters.specs.declared.Step.the-variants.{Shut, Open}
-use Rattle.filters.proofs.Masks.{row-member, seen-at, at-seen, none-some, size-words}
+use Rattle.filters.proofs.Masks.{row-member, seen-at, at-seen, Counted, in-mask, counted-size}
 use Rattle.filters.proofs.Promise.{way-start, way-in, way-on, way-ends, way-shut, shut-start}
-use Rattle.filters.proofs.Steps.{not-shut, open-is, step-none, step-shut, step-says}
+use Rattle.filters.proofs.Steps.{not-shut, open-is, step-none, step-shut}
 use Rattle.filters.proofs.Unit.{UnitClosed, unit-greatest, strike-keeps, settled-closed}
 
 -- sets
@@ -104,37 +104,33 @@ module _ (v : ℕ) {w m graph g : ℕ} {p p₁ p₂ : List ℕ} {r : Bool} (A : 
           (o .0)
 
 -- `visit`
-module _ {w masks graph n k c m live : ℕ} {p : List ℕ} (A : w + w ≤ masks) (B : w + w ≤ graph) (s : n ≤ 64 * w) (l : c < k) (e : m ≡ masks + c * w)
-    (x : live ≡ count (64 * w) (setAt p w 0 ∩ setAt p w m)) (d : ℕ) (f : d ≤ c) where
-  sized : (G : Graph) → Node G d w masks graph n k p → size G c (setAt p w 0) ≡ live
-  sized G N = sym (size-words N c l s) ∙ ap (λ (i : ℕ). count (64 * w) (setAt p w 0 ∩ setAt p w i)) (sym e) ∙ sym x
-
+module _ {w masks graph n k c m live : ℕ} {p : List ℕ} (C : Counted (w + w) w masks graph n k c m live p) (d : ℕ) (f : d ≤ c) where
   pub visit-shut : live ≡ 0 → Stepped unit (λ G. Calm G d c) (w + w) d w masks graph n k p p Shut
-  visit-shut z = step-shut unit UnitClosed unit-greatest A B (outside-none _ _ p) (λ G N. shut-start G (UnitClosed G) (unit G) (unit-greatest G) d (setAt p w 0)
-      (is-false _ (λ o. let t = lower-at G c (setAt p w 0) (open-out G d (setAt p w 0) o c f (omega (arith, N .held .classes))) in
-      absurd (omega (arith, size-pos G c _ (setAt p w 0) t, sized G N)))))
+  visit-shut z = step-shut unit UnitClosed unit-greatest (C .masks-after) (C .graph-after) (outside-none _ _ p) (λ G N. shut-start G (UnitClosed G) (unit G) (unit-greatest G) d (setAt p w 0)
+      (is-false _ (λ o. let t = lower-at G c (setAt p w 0) (open-out G d (setAt p w 0) o c f (omega (arith, N .held .classes, C .upto))) in
+      absurd (omega (arith, size-pos G c _ (setAt p w 0) t, counted-size C N)))))
 
   pub visit-more : 1 < live → Stepped unit (λ G. Calm G d c) (w + w) d w masks graph n k p p (Open false)
   unfolding lone
-  visit-more z = step-none unit UnitClosed unit-greatest A B (λ G N. record {
-    live = size-some G c (setAt p w 0) (omega (arith, sized G N));
-    still = λ t. absurd (omega (arith, eqb-true (size G c (setAt p w 0)) 1 t, sized G N));
+  visit-more z = step-none unit UnitClosed unit-greatest (C .masks-after) (C .graph-after) (λ G N. record {
+    live = size-some G c (setAt p w 0) (omega (arith, counted-size C N));
+    still = λ t. absurd (omega (arith, eqb-true (size G c (setAt p w 0)) 1 t, counted-size C N));
   })
 
   module _ {v : ℕ} (z : live ≡ 1) (y : Least (setAt p w 0 ∩ setAt p w m) 0 (64 * w) v) where
     has-one : (G : Graph) → Node G d w masks graph n k p → some G c (setAt p w 0) ≡ true
-    has-one G N = size-some G c (setAt p w 0) (omega (arith, sized G N))
+    has-one G N = size-some G c (setAt p w 0) (omega (arith, counted-size C N))
 
     is-lone : (G : Graph) → Node G d w masks graph n k p → lone G c (setAt p w 0) ≡ true
     unfolding lone
-    is-lone G N = eq-eqb (size G c (setAt p w 0)) 1 (sized G N ∙ z)
+    is-lone G N = eq-eqb (size G c (setAt p w 0)) 1 (counted-size C N ∙ z)
 
     pub visit-none : n ≤ v → Stepped unit (λ G. Calm G d c) (w + w) d w masks graph n k p p (Open false)
-    visit-none h = step-none unit UnitClosed unit-greatest A B (λ G N.
+    visit-none h = step-none unit UnitClosed unit-greatest (C .masks-after) (C .graph-after) (λ G N.
         let t = lower-at G c (setAt p w 0) (has-one G N) in
         let i = lower G c (setAt p w 0) in
         let q : i < v = omega (arith, t .lt, N .held .size) in
-        clash ((setAt p w 0 ∩ setAt p w m) i) (subst (λ (j : ℕ). (setAt p w 0 ∩ setAt p w j) i ≡ true) (sym e) (at-seen N c i l t)) (y .none i (omega arith) q))
+        clash ((setAt p w 0 ∩ setAt p w m) i) (ap (λ (X : Set). X i) (in-mask C) ∙ at-seen N c i (C .upto) t) (y .none i (omega arith) q))
 
     pub visit-struck : {q : List ℕ} {r : Bool} → v < n → StruckOthers w m graph v p q r → Stepped unit (λ G. Calm G d c) (w + w) d w masks graph n k p q (Open r)
     unfolding strike stays _∩_ _∪_
@@ -143,7 +139,7 @@ module _ {w masks graph n k c m live : ℕ} {p : List ℕ} (A : w + w ≤ masks)
       shut = λ t. not-shut r t;
       way = λ b t G N. way-in G (UnitClosed G) (unit G) (unit-greatest G) d (setAt p w 0) (setAt q w 0)
           (λ u i. meet-l (setAt p w 0) (rowAt p w graph v ∪ setAt p w m) u (sym (ap (λ (X : Set). X u) (S .own)) ∙ i))
-          (λ T o u i. rw (struck G N) (strike-keeps G d c (setAt p w 0) T o u i f (omega (arith, N .held .classes)) (is-lone G N)));
+          (λ T o u i. rw (struck G N) (strike-keeps G d c (setAt p w 0) T o u i f (omega (arith, N .held .classes, C .upto)) (is-lone G N)));
       fewer = λ t. S .fewer (open-is r true t);
       same = λ t. S .same (open-is r false t);
       settled = λ t G N. record {
@@ -159,7 +155,7 @@ module _ {w masks graph n k c m live : ℕ} {p : List ℕ} (A : w + w ≤ masks)
 
         first : (G : Graph) → Node G d w masks graph n k p → v ≡ lower G c (setAt p w 0)
         first G N = lone-sole G c (setAt p w 0) (is-lone G N) .only v
-            (seen-at N c v l (subst (λ (j : ℕ). (setAt p w 0 ∩ setAt p w j) v ≡ true) e (y .found (omega arith))))
+            (seen-at N c v (C .upto) (sym (ap (λ (X : Set). X v) (in-mask C)) ∙ y .found (omega (arith, C .wide))))
 
         inn : (G : Graph) → Node G d w masks graph n k p → (u : ℕ) → setAt p w 0 u ≡ true
             → (setAt p w 0 u && (rowAt p w graph v u || setAt p w m u)) ≡ (setAt p w 0 u && (G .adj (lower G c (setAt p w 0)) u || (eqb (G .cls u) c || ltb (G .cls u) d)))
@@ -167,7 +163,7 @@ module _ {w masks graph n k c m live : ℕ} {p : List ℕ} (A : w + w ≤ masks)
             let r = N .live u t in
             let i : u < n = omega (arith, N .held .size) in
             ap (λ (y : Bool). setAt p w 0 u && y) (ap₂ (λ (a b : Bool). a || b) (N .held .edge v u h i ∙ ap (λ (j : ℕ). G .adj j u) (first G N))
-            (ap (λ (j : ℕ). setAt p w j u) e ∙ N .held .mask c u l i)
+            (ap (λ (j : ℕ). setAt p w j u) (C .mask) ∙ N .held .mask c u (C .upto) i)
             ∙ or-no (G .adj (lower G c (setAt p w 0)) u) (eqb (G .cls u) c) (ltb (G .cls u) d) (is-false (ltb (G .cls u) d) (λ j. omega (arith, ltb-true (G .cls u) d j))))
 
         struck : (G : Graph) → Node G d w masks graph n k p → setAt q w 0 ≡ strike G d c (setAt p w 0)

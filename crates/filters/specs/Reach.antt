@@ -1,6 +1,6 @@
 -- What a class strikes in the own row, in words: whoever is beside none of its live vertices, and is not spared.
 use mathlib.Core.Path.{_≡_}
-use mathlib.Core.Bool.{Bool, _&&_}
+use mathlib.Core.Bool.{_&&_}
 use mathlib.Core.List.{List}
 use Prim.Native.Nat.{ℕ, _+_}
 use Rattle.sets.specs.Below.{any}

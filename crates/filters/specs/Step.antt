@@ -46,6 +46,11 @@ pub record Rests (G : Graph) (d : ℕ) (L : Set) : Type 0 where
   pub opens : isOpen G d L ≡ true
   pub still : unit G d L ≡ L
 
+-- in words: class c has two live vertices, and a is one of them
+pub record OneOfTwo (w masks c a : ℕ) (p : List ℕ) : Type 0 where
+  pub both : count (64 * w) (setAt p w 0 ∩ rowAt p w masks c) ≡ 2
+  pub live : (setAt p w 0 ∩ rowAt p w masks c) a ≡ true
+
 -- a trial of vertex a is not refuted; of class c, where it has two live vertices, neither is; nor is one of any remaining class
 abbrev pub Stands : Graph → ℕ → ℕ → Set → Type 0
 Stands G d a L = refuted G d a L ≡ false

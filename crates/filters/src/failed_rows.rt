@@ -1,15 +1,10 @@
 // Failed vertices. Unit steps, then a round of trials, until a round strikes nothing.
-ghost use mathlib.Core.Path.{_≡_};
-ghost use mathlib.Core.Bool.{true};
-ghost use Prim.Native.Nat.{_+_, _*_, _<_, _≤_};
+ghost use Prim.Native.Nat.{_+_, _<_, _≤_};
 ghost use lib.ListN.{length};
-ghost use Rattle.sets.specs.Below.{count};
-ghost use Rattle.sets.specs.Sets.{_∩_};
-ghost use Rattle.vset.specs.Rows.{setAt, rowAt};
 ghost use Rattle.cliques.specs.Words.{Room};
 ghost use Rattle.filters.specs.Failed.{failed as failedVertices};
 ghost use Rattle.filters.specs.Filtered.{Filtered};
-ghost use Rattle.filters.specs.Step.{Stepped, Stands, BothStand, AllStand};
+ghost use Rattle.filters.specs.Step.{Stepped, OneOfTwo, Stands, BothStand, AllStand};
 use crate::Step;
 use crate::unit_rows::unit_steps;
 use vset::row::add_to_row;
@@ -32,7 +27,7 @@ fn trial(
     c: usize,
     a: usize,
 ) -> Step
-    requires { ⌜ Room (w + w + w + w) w masks graph n k (length (now part)) × (d ≤ c) × (c < k) × (count (64 * w) (setAt (now part) w 0 ∩ rowAt (now part) w masks c) ≡ 2) × ((setAt (now part) w 0 ∩ rowAt (now part) w masks c) a ≡ true) ⌝ }
+    requires { ⌜ Room (w + w + w + w) w masks graph n k (length (now part)) × (d ≤ c) × (c < k) × OneOfTwo w masks c a (now part) ⌝ }
     ensures { λ r. ⌜ Stepped failedVertices (λ G. Stands G d a) (w + w + w + w) d w masks graph n k (now (part .entry)) (now (part .exit)) r ⌝ }
 {
     let m = row_at(masks, w, c, k);
@@ -73,6 +68,7 @@ fn try_class(
     let Step::Open { struck } = trial(part, w, masks, graph, n, k, d, c, a) else {
         return Step::Shut;
     };
+    // with the lower struck, one is left
     if struck {
         return Step::Open { struck: true };
     }
@@ -105,7 +101,8 @@ fn round(
     Step::Open { struck }
 }
 
-// Unit steps and rounds of trials: whether they leave no remaining class empty.
+// Unit steps and rounds of trials: whether they leave no remaining class empty. Unit steps before a later round find nothing left to strike: each
+// trial that struck a vertex ran them.
 pub fn failed(
     part: &mut [u64],
     w: usize,

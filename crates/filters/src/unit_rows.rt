@@ -2,7 +2,7 @@
 // What is left is the same in any order of the strikes, so that no class taken has to be kept.
 ghost use mathlib.Core.Path.{_≡_};
 ghost use mathlib.Core.Bool.{true};
-ghost use Prim.Native.Nat.{ℕ, _+_, _*_, _^_, _<_, _≤_};
+ghost use Prim.Native.Nat.{ℕ, _+_, _*_, _<_, _≤_};
 ghost use lib.ListN.{length};
 ghost use Rattle.sets.specs.Below.{count};
 ghost use Rattle.vset.specs.Rows.{setAt};

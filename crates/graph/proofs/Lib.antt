@@ -2,4 +2,5 @@ pub mod Graph
 pub mod Matches
 pub mod Spans
 pub mod Strikes
+pub mod Sides
 pub mod Rows

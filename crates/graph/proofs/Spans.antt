@@ -2,14 +2,14 @@
 use mathlib.Core.Path.{_≡_, refl, sym, ap, _∙_, fun-ext}
 use mathlib.Core.Bool.{Bool, true, false, not, _&&_, _||_}
 use mathlib.Core.List.{List}
-use Prim.Native.Nat.{ℕ, _+_, _*_, _≤_, _<_}
+use Prim.Native.Nat.{ℕ, _+_, _≤_, _<_}
 use native.Mathlib.Decide.{ℕ-discrete}
 use native.Mathlib.Omega.{arith}
 use lib.Dec.{eqb, ltb, leb}
-use borrow.Author.Tests.{eqb-true, ltb-true, leb-true, eq-eqb, ne-eqb, lt-ltb, le-ltb, le-leb, lt-leb}
+use borrow.Author.Tests.{eqb-true, ltb-true, leb-true, eq-eqb, ne-eqb, lt-ltb, le-leb}
 use Rattle.sets.specs.Sets.{Set, _∩_, _∪_, _∖_, nothing, just, whole}
-use Rattle.sets.proofs.Tests.{bool, is-false, iff, and-l, and-r, and-in, or-l, or-r, or-case}
-use Rattle.vset.specs.Rows.{setAt, Outside, Put}
+use Rattle.sets.proofs.Tests.{is-false, iff, and-l, and-r, and-in, or-l, or-r}
+use Rattle.vset.specs.Rows.{setAt, Put}
 use Rattle.vset.proofs.Sets.{join-assoc}
 use Rattle.vset.proofs.Rows.{outside-none, outside-then}
 use Rattle.graph.specs.Strikes.{stretch}

@@ -15,7 +15,7 @@ pub record RowsFit (w spare graph n len : ℕ) : Type 0 where
   pub apart : spare + w ≤ graph
   pub inside : graph + n * w ≤ len
 
--- row u holds the neighbours of u under the first q rules, and only the spare row and the rows have changed
+-- "Two vertices are adjacent when ..": row u holds the neighbours of u under the first q rules, and only the spare row and the rows have changed
 pub record Built (ls fs rs ps : List ℕ) (k n q w spare graph : ℕ) (p p′ : List ℕ) : Type 0 where
   pub rows : (u : ℕ) → u < n → rowAt p′ w graph u ≡ adjacent ls fs rs ps k n q u
   pub rest : Outside spare (graph + n * w) p p′

@@ -29,7 +29,7 @@ sideOf ls rs j turned a b = record {
   end = linkFirst ls b + linkCount ls b;
 }
 
--- the positions of pair row i in the list of the struck rows' link, and in that of the other
+-- "positions (from 0) in the lists of a and of b": those of pair row i in the list of the struck rows' link, and in that of the other
 unfoldable pub ownPlace : List ℕ → Bool → ℕ → ℕ
 ownPlace ps turned i = cond turned (pairSecond ps i) (pairFirst ps i)
 
@@ -40,11 +40,12 @@ otherPlace ps turned i = cond turned (pairFirst ps i) (pairSecond ps i)
 unfoldable pub partner : List ℕ → Bool → ℕ → ℕ → ℕ → Set
 partner ps turned first x i v = eqb (ownPlace ps turned i) x && eqb v (first + otherPlace ps turned i)
 
--- the partners that m pair rows from `base` on give position x
+-- "Kind 3: only listed pairs are allowed": the partners that m pair rows from `base` on give position x
 unfoldable pub partners : List ℕ → Bool → ℕ → ℕ → ℕ → ℕ → Set
 partners ps turned first x base m v = any m (λ i. partner ps turned first x (base + i) v)
 
--- the vertices that a rule of kind 1 or 2 does not allow with the frequency x
+-- "Kind 1: the frequencies differ by at least value. Kind 2: they differ by just value": the vertices that such a rule does not allow with the
+-- frequency x
 unfoldable pub clashing : List ℕ → ℕ → ℕ → ℕ → Set
 clashing fs kind value x v = not (agree kind value (distance x (freq fs v)) false)
 

@@ -7,7 +7,7 @@ ghost use mathlib.Core.Path.{_≡_};
 ghost use Prim.Native.Nat.{ℕ, _+_, _-_, _*_, _^_, _<_, _≤_};
 ghost use lib.ListN.{length};
 ghost use Rattle.sets.specs.Sets.{whole};
-ghost use Rattle.vset.specs.Rows.{setAt, rowAt, Begins, Put};
+ghost use Rattle.vset.specs.Rows.{setAt, rowAt, Put};
 ghost use Rattle.rules.specs.Parts.{Parts};
 ghost use Rattle.graph.specs.Graph.{adjacent};
 ghost use Rattle.graph.specs.Rows.{RowsFit, Built, Degree};
@@ -114,26 +114,10 @@ fn strike_rule(
 {
     let a = rule_a(rs, j);
     let b = rule_b(rs, j);
-    strike_side(
-        part,
-        w,
-        spare,
-        graph,
-        n,
-        fs,
-        ps,
-        side(ls, rs, j, false, a, b),
-    );
-    strike_side(
-        part,
-        w,
-        spare,
-        graph,
-        n,
-        fs,
-        ps,
-        side(ls, rs, j, true, b, a),
-    );
+    let lower = side(ls, rs, j, false, a, b);
+    strike_side(part, w, spare, graph, n, fs, ps, lower);
+    let higher = side(ls, rs, j, true, b, a);
+    strike_side(part, w, spare, graph, n, fs, ps, higher);
 }
 
 // The rows of the graph, of w words each, from `graph` on. The w words before them are a spare row.

@@ -1,6 +1,6 @@
 // What a rule row bars is struck from the rows of its links.
 ghost use mathlib.Core.Path.{_≡_};
-ghost use Prim.Native.Nat.{ℕ, _+_, _-_, _*_, _^_, _<_, _≤_};
+ghost use Prim.Native.Nat.{_+_, _-_, _*_, _^_, _<_, _≤_};
 ghost use lib.ListN.{length};
 ghost use Rattle.sets.specs.Sets.{_∩_, _∖_, just};
 ghost use Rattle.sheet.specs.Sheet.{freqBytes, linkBytes, ruleBytes, pairBytes};

@@ -2,16 +2,16 @@
 use mathlib.Core.Path.{_≡_, refl, sym, ap, _∙_, fun-ext}
 use mathlib.Core.Bool.{Bool, true, false, cond, _&&_}
 use mathlib.Core.List.{List}
-use Prim.Native.Nat.{ℕ, zero, suc, _+_, _-_, _*_, _≤_, _<_}
+use Prim.Native.Nat.{ℕ, zero, suc, _+_, _-_, _≤_, _<_}
 use native.Mathlib.Decide.{ℕ-discrete, decLt}
 use native.Mathlib.Omega.{arith}
 use lib.Dec.{eqb, ltb}
-use lib.ListN.{length, getD, set, take, drop, replicate, getD-replicate}
+use lib.ListN.{length, getD, set, drop, replicate, getD-replicate}
 use lib.Seq.{getD-set-same, getD-set-other, set-out, getD-take, getD-drop, ext-getD}
 use borrow.Author.Tests.{eqb-true, eq-eqb, ne-eqb, ltb-true}
 use Rattle.sets.specs.Below.{all, loop, tabulate}
 use Rattle.sets.specs.Sets.{Set, _∪_, just, nothing}
-use Rattle.sets.proofs.Tests.{bool, is-false, and-l, and-r, and-in, and-false}
+use Rattle.sets.proofs.Tests.{is-false, and-l, and-r, and-in, and-false}
 use Rattle.sets.proofs.Below.{loop-none, loop-more, loop-keeps}
 use Rattle.sets.proofs.Lists.{length-tabulate, getD-tabulate}
 use Rattle.vset.specs.Rows.{setAt, Outside, Put}
@@ -55,12 +55,12 @@ pub left-out : {w graph n k c v : ℕ} {p cls : List ℕ}
     → ((adj : ℕ → ℕ → Bool) → Rows adj w graph n p → setAt p w (n + n) ≡ members n cls c → join n k adj c v cls ≡ cls) → Joined w graph n k c v p p cls cls
 left-out {p = p} f = record { joined = λ adj R e. sym (f adj R e); kept = λ e. e; rest = outside-none _ _ p }
 
-pub taken-in : {w graph n k c v : ℕ} {p p′ cls : List ℕ} → v < n → length cls ≡ n → classOf cls v ≡ k
+pub taken-in : {w graph n k c v : ℕ} {p p′ cls cls′ : List ℕ} → v < n → length cls ≡ n → classOf cls v ≡ k
     → ((adj : ℕ → ℕ → Bool) → Rows adj w graph n p → setAt p w (n + n) ≡ members n cls c → free n k adj c cls v ≡ true)
-    → Put (setAt p w (n + n) ∪ just v) w (n + n) p p′ → Joined w graph n k c v p p′ cls (set cls v c)
-taken-in {w} {graph} {n} {k} {c} {v} {p} {p′} {cls} h l q f P = record {
-  joined = λ adj R e. sym (join-taken n k adj c v cls q (f adj R e));
-  kept = λ e. P .here ∙ ap (λ (S : Set). S ∪ just v) e ∙ sym (members-set n v c cls h l);
+    → Put (setAt p w (n + n) ∪ just v) w (n + n) p p′ → cls′ ≡ set cls v c → Joined w graph n k c v p p′ cls cls′
+taken-in {w} {graph} {n} {k} {c} {v} {p} {p′} {cls} h l q f P s = record {
+  joined = λ adj R e. s ∙ sym (join-taken n k adj c v cls q (f adj R e));
+  kept = λ e. P .here ∙ ap (λ (S : Set). S ∪ just v) e ∙ rw s (sym (members-set n v c cls h l));
   rest = P .rest;
 }
 
@@ -171,7 +171,7 @@ module _ {w graph n k m c : ℕ} {p₀ p cls : List ℕ} (F : FillingAll w graph
 
   pub filling-all-done : k ≤ c → AllFilled w graph n k m p₀ p cls
   unfolding greedy
-  filling-all-done h = record { filled = λ adj R O. let e : c ≡ k = omega (arith, F .upto) in rw e at (F .filled adj R O); rest = F .rest }
+  filling-all-done h = record { filled = λ adj R O. let e : c ≡ k = omega (arith, F .upto) in rw e at (F .filled adj R O); size = F .long; rest = F .rest }
 
 -- the whole builder
 
@@ -184,7 +184,7 @@ module _ {w graph n k m : ℕ} {p p₁ p₂ p₃ p₄ layers cls : List ℕ} (S 
       G .filled adj (rows-stay (omega arith) (K .rest) (rows-stay f (O .rest) (rows-stay (omega arith) (D .rest) R)))
       (order-after (K .rest) (O .order adj d) (omega arith))
 
-  wrote : Outside 0 (n + n + w) p p₄
+  pub wrote : Outside 0 (n + n + w) p p₄
   wrote =
       let a = outside-wide 0 (n + n + w) (omega arith) (omega arith) (D .rest) in
       let b = outside-wide 0 (n + n + w) (omega arith) (omega arith) (O .rest) in
@@ -199,11 +199,11 @@ module _ {w graph n k m : ℕ} {p p₁ p₂ p₃ p₄ layers cls : List ℕ} (S 
   unfolding built placed
   built-own t = record { classes = λ adj R. rw (← made adj R, t) refl; rest = wrote }
 
-  pub built-layers : {cls′ : List ℕ} → all n (λ v. ltb (classOf cls v) k) ≡ false → cls′ ≡ tabulate (length cls) (λ v. getD p₄ v 0) → length cls ≡ n
+  pub built-layers : {cls′ : List ℕ} → all n (λ v. ltb (classOf cls v) k) ≡ false → cls′ ≡ tabulate (length cls) (λ v. getD p₄ v 0)
       → Built w graph n k p p₄ layers cls′
   unfolding built placed
-  built-layers {cls′} t e l = record { classes = λ adj R. rw (← made adj R, t) back; rest = wrote }
+  built-layers {cls′} t e = record { classes = λ adj R. rw (← made adj R, t) back; rest = wrote }
     where
       back : cls′ ≡ layers
-      back = (rw l at e) ∙ ext-getD 0 (tabulate n (λ v. getD p₄ v 0)) layers (length-tabulate n _ ∙ sym long)
+      back = (rw (G .size) at e) ∙ ext-getD 0 (tabulate n (λ v. getD p₄ v 0)) layers (length-tabulate n _ ∙ sym long)
           (λ v l. let h : v < n = omega (arith, length-tabulate n (λ v. getD p₄ v 0)) in getD-tabulate n (λ v. getD p₄ v 0) v 0 h ∙ layers-kept v h)

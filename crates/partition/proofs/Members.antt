@@ -1,22 +1,35 @@
 -- A class as a set of vertices: vertex by vertex, in a row of words, and against the row of a vertex.
 use mathlib.Core.Path.{_≡_, refl, sym, ap, _∙_, fun-ext}
-use mathlib.Core.Bool.{Bool, true, false, not, cond, _&&_, _||_}
+use mathlib.Core.Bool.{Bool, true, false, cond, _&&_, _||_}
 use mathlib.Core.List.{List}
 use Prim.Native.Nat.{ℕ, _+_, _*_, _/_, _%_, _≤_, _<_}
 use native.Mathlib.Decide.{ℕ-discrete, decLt}
 use native.Mathlib.Omega.{arith}
 use lib.Dec.{eqb, ltb}
-use lib.ListN.{length, getD, set, take, drop}
+use lib.ListN.{length, set, drop}
 use lib.Seq.{getD-set-same, getD-set-other, getD-take, getD-drop}
 use borrow.Author.Tests.{eqb-true, eqb-false, eq-eqb, ne-eqb, lt-ltb, le-ltb, ltb-true, ltb-false}
 use Rattle.sets.specs.Sets.{Set, _∩_, _∪_, just, nothing}
-use Rattle.sets.proofs.Tests.{clash, bool, is-false, iff, and-l, and-r, and-in, and-false, or-l, or-r}
-use Rattle.vset.specs.Words.{bit, has, Emptiness}
+use Rattle.sets.proofs.Tests.{clash, bool, is-false, and-l, and-r, and-in, or-r}
+use Rattle.vset.specs.Words.{has, Emptiness}
 use Rattle.vset.specs.Rows.{setAt, rowAt, Outside, Begins, Put}
 use Rattle.vset.proofs.Rows.{row-inside, set-past, above, below, outside-then, outside-wide, outside-none}
 use Rattle.partition.specs.Partition.{classOf, free}
 use Rattle.partition.specs.Words.{Rows, members, Masks, Marked}
 use Rattle.partition.proofs.Partition.{free-in, free-out}
+
+-- the rows of a graph without a vertex from n on
+pub rows-in : {adj : ℕ → ℕ → Bool} {w graph n : ℕ} (p : List ℕ) → ((u : ℕ) → u < n → rowAt p w graph u ≡ adj u) → ((u v : ℕ) → n ≤ v → adj u v ≡ false)
+    → Rows adj w graph n p
+rows-in {adj} {w} {graph} {n} p at past = record { edge = λ u l v. ap (λ (S : Set). S v) (at u l) ∙ go u v (decLt v n) }
+  where
+    go : (u v : ℕ) → Dec (v < n) → adj u v ≡ ltb v n && adj u v
+    go u v (yes l) = rw (lt-ltb v n l)
+    go u v (no g) = rw (le-ltb v n (omega arith)) (past u v (omega arith))
+
+or-false : (x : Bool) → x ≡ x || false
+or-false true = refl
+or-false false = refl
 
 -- no vertex, and one vertex more
 
@@ -31,10 +44,6 @@ members-next v cls d = go (eqb d (classOf cls v)) refl
     at : (b : Bool) → eqb d (classOf cls v) ≡ b → (u : ℕ) → Dec (u < v) → Dec (u ≡ v)
         → (ltb u (v + 1) && eqb (classOf cls u) d) ≡ cond b ((ltb u v && eqb (classOf cls u) d) || eqb u v) (ltb u v && eqb (classOf cls u) d)
     at true e u (yes l) y = let z : u ≡ v → ⊥ = λ q. omega arith in rw (lt-ltb u (v + 1) (omega arith), lt-ltb u v l, ne-eqb u v z) (or-false _)
-      where
-        or-false : (x : Bool) → x ≡ x || false
-        or-false true = refl
-        or-false false = refl
     at true e u (no g) (yes q) =
         let z : classOf cls u ≡ d = ap (classOf cls) q ∙ sym (eqb-true d (classOf cls v) e) in
         rw (lt-ltb u (v + 1) (omega arith), eq-eqb (classOf cls u) d z, eq-eqb u v q, le-ltb u v (omega arith))
@@ -59,10 +68,6 @@ members-set n v c cls h l = fun-ext (λ u. go u (ℕ-discrete u v))
         let z : classOf (set cls v c) u ≡ c = ap (classOf (set cls v c)) e ∙ getD-set-same cls v c 0 (omega arith) in
         and-in (lt-ltb u n (omega arith)) (eq-eqb (classOf (set cls v c) u) c z) ∙ sym (or-r (ltb u n && eqb (classOf cls u) c) (eq-eqb u v e))
     go u (no e) = rw (getD-set-other cls v u c 0 e, ne-eqb u v e) (or-false _)
-      where
-        or-false : (x : Bool) → x ≡ x || false
-        or-false true = refl
-        or-false false = refl
 
 -- a vertex whose row, at a, has nothing in common with the class is adjacent to none in it
 pub free-is : {adj : ℕ → ℕ → Bool} {w graph n a : ℕ} {p : List ℕ} {S : Set} {r : Bool} (k c : ℕ) (cls : List ℕ) (v : ℕ) → v < n → a ≡ graph + v * w

@@ -1,18 +1,18 @@
 -- The test of the caller's list: what the code owes at each place where it answers.
-use mathlib.Core.Path.{_≡_, refl, sym, ap, _∙_}
-use mathlib.Core.Bool.{Bool, true, false, not, _&&_}
+use mathlib.Core.Path.{_≡_}
+use mathlib.Core.Bool.{Bool, true, false}
 use mathlib.Core.List.{List}
 use Prim.Native.Nat.{ℕ, _+_, _*_, _≤_, _<_}
-use lib.Dec.{eqb, ltb}
+use lib.Dec.{ltb}
 use lib.ListN.{length}
 use borrow.Author.Tests.{eq-eqb, ne-eqb}
 use Rattle.sets.specs.Below.{all}
 use Rattle.vset.specs.Words.{Emptiness}
 use Rattle.sets.specs.Sets.{_∩_}
-use Rattle.vset.specs.Rows.{setAt, Outside, Begins}
+use Rattle.vset.specs.Rows.{setAt, Begins}
 use Rattle.vset.proofs.Rows.{outside-none}
 use Rattle.partition.specs.Partition.{classOf, placed, isPartition}
-use Rattle.partition.specs.Words.{Rows, Masks, Alone, AllAlone, Tested}
+use Rattle.partition.specs.Words.{Masks, Alone, AllAlone, Tested}
 use Rattle.partition.proofs.Members.{free-is, rows-stay}
 
 -- the row of v, at a, against the mask of its class, at b

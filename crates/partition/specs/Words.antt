@@ -94,6 +94,7 @@ pub record Filled (w graph n k m c : ℕ) (p p′ cls cls′ : List ℕ) : Type 
 -- k classes are filled
 pub record AllFilled (w graph n k m : ℕ) (p p′ cls′ : List ℕ) : Type 0 where
   pub filled : (adj : ℕ → ℕ → Bool) → Rows adj w graph n p → Ordered adj n m p → cls′ ≡ greedy n k adj
+  pub size : length cls′ ≡ n
   pub rest : Outside (n + n) (n + n + w) p p′
 
 -- the class list was written into the first words

@@ -3,8 +3,10 @@
 ghost use mathlib.Core.Path.{_≡_};
 ghost use Prim.Native.Nat.{ℕ, _+_, _*_, _<_, _≤_};
 ghost use lib.Dec.{ltb};
-ghost use lib.ListN.{length, getD, replicate};
+ghost use lib.ListN.{length, getD, set, replicate};
 ghost use Rattle.sets.specs.Below.{all, tabulate};
+ghost use Rattle.sets.specs.Sets.{_∪_, just};
+ghost use Rattle.vset.specs.Rows.{setAt, Put};
 ghost use Rattle.partition.specs.Partition.{classOf};
 ghost use Rattle.partition.specs.Words.{Space, Joined, Filled, AllFilled, Kept, Built};
 use super::degrees::put_degrees;
@@ -13,6 +15,15 @@ use vset::row::add_to_row;
 use vset::row::clear_row;
 use vset::row::no_common_rows;
 use vset::row::row_at;
+
+// Class c takes v: v is added to the class's row, at `own`, and its class is c.
+fn take_in(part: &mut [u64], w: usize, own: usize, c: usize, v: usize, cls: &mut [u8])
+    requires { ⌜ (own + w ≤ length (now part)) × (v < 64 * w) × (v < length (now cls)) × (c < 256) ⌝ }
+    ensures { λ _. ⌜ Put (setAt (now (part .entry)) w own ∪ just v) w own (now (part .entry)) (now (part .exit)) × (now (cls .exit) ≡ set (now (cls .entry)) v c) ⌝ }
+{
+    add_to_row(part, w, own, v);
+    cls[v] = c as u8;
+}
 
 // Class c takes v, if it is unplaced, which is written k, and adjacent to none of the class's row.
 fn try_join(
@@ -39,8 +50,7 @@ fn try_join(
     if !no_common_rows(part, w, a, own) {
         return;
     }
-    add_to_row(part, w, own, v);
-    cls[v] = c as u8;
+    take_in(part, w, own, c, v, cls);
 }
 
 // Class c, which has no member, takes what it can of the m vertices of the order.

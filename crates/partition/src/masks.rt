@@ -1,5 +1,4 @@
 // The classes as rows of words: the mask of class c has the vertices of class c.
-ghost use mathlib.Core.Path.{_≡_};
 ghost use Prim.Native.Nat.{_+_, _*_, _<_, _≤_};
 ghost use lib.ListN.{length};
 ghost use Rattle.partition.specs.Words.{Masks, Marked};

@@ -48,10 +48,10 @@ is-open-spec =
     Inv-loop
     μ-loop
     loop-holds
-    (λ c κs. search needs)  -- row-at-requires
-    (λ c κs. search needs)  -- no-common-requires
+    (λ c κs. search needs)
+    (λ c κs. search needs)
     returns
-    (λ c. search needs)  -- add-c
-    (λ c. search needs)  -- loop-less
+    (λ c. search needs)
+    (λ c. search needs)
     loop-again
     returns-2)

@@ -1,6 +1,6 @@
 -- `graph::build_rows` meets its contract. The invariant: the rows hold the neighbours under the first j rules.
 use borrow.Author.Needs.{needs}
-use Prim.Native.Nat.{ℕ, _-_, _≤_}
+use Prim.Native.Nat.{_-_, _≤_}
 use mathlib.Core.Path.{_≡_}
 use native.Mathlib.Omega.{arith}
 use lib.ListN.{length}

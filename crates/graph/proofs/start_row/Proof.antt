@@ -1,6 +1,6 @@
 -- `graph::start_row` meets its contract. The link of u's layer is the stretch that is taken.
 use borrow.Author.Needs.{needs}
-use mathlib.Core.Path.{ap, sym, _∙_}
+use mathlib.Core.Path.{ap, _∙_}
 use Prim.Native.Nat.{_+_}
 use native.Mathlib.Omega.{arith}
 use Rattle.sets.specs.Sets.{Set, _∖_}

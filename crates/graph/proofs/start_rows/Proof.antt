@@ -1,7 +1,6 @@
 -- `graph::start_rows` meets its contract. The invariant is `Started`: the rows up to u are written.
 use borrow.Author.Needs.{needs}
 use Prim.Native.Nat.{_-_}
-use mathlib.Core.Path.{_≡_}
 use native.Mathlib.Omega.{arith}
 use Rattle.vset.proofs.Rows.{outside-then}
 use Rattle.graph.proofs.Rows.{Started, every-put, fit-same, started-none, started-more}

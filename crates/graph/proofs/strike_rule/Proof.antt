@@ -2,43 +2,42 @@
 use borrow.Author.Needs.{needs}
 use native.Mathlib.Omega.{arith}
 use Rattle.rules.proofs.Laws.{links-within}
-use Rattle.graph.proofs.Rows.{fits-a, fits-b, fit-same, rule-built}
+use Rattle.graph.proofs.Sides.{fits-a, fits-b}
+use Rattle.graph.proofs.Rows.{fit-same, rule-built}
 use Rattle.graph.proofs.strike_rule.Statement.{statement}
 use Rattle.graph.proofs.strike_rule.Tie as tie
 
 side-requires : tie.Need-side-requires
 side-requires c κs =
-    let s = c .before .before .before .before .before .before .before .before in
+    let s = c .before .before .before .before .before .before .before in
     let o = links-within (s .pre .0 .0) (s .args .j) (s .pre .0 .2) in
     (omega arith, omega arith, o .2)
 
 strike-side-requires : tie.Need-strike-side-requires
 strike-side-requires c κs =
     let s = c .before .before .before .before .before .before .before .before .before in
-    let a = s .args in
-    let x = rw (c .before .before .before .rule-a .ensures .0, c .before .before .rule-b .ensures .0) at (c .side .ensures) in
-    rw x (fits-a (s .pre .0 .0) (a .j) (s .pre .0 .2), s .pre .0 .1, omega arith)
+    let x = rw (c .before .before .before .rule-a .ensures .0, c .before .before .rule-b .ensures .0) at (c .before .side .ensures) in
+    rw x (fits-a (s .pre .0 .0) (s .args .j) (s .pre .0 .2), s .pre .0 .1, omega arith)
 
 side-requires-2 : tie.Need-side-requires-2
 side-requires-2 c κs =
-    let s = c .before .before .before .before .before .before .before .before .before .before .before .before .before in
+    let s = c .before .before .before .before .before .before .before .before .before .before .before .before in
     let o = links-within (s .pre .0 .0) (s .args .j) (s .pre .0 .2) in
     (omega arith, omega arith, o .2)
 
 strike-side-requires-2 : tie.Need-strike-side-requires-2
 strike-side-requires-2 c κs =
     let s = c .before .before .before .before .before .before .before .before .before .before .before .before .before .before in
-    let a = s .args in
-    let x = rw (c .before .before .before .before .before .before .before .before .rule-a .ensures .0, c .before .before .before .before .before .before .before .rule-b .ensures .0) at (c .side2 .ensures) in
-    rw x (fits-b (s .pre .0 .0) (a .j) (s .pre .0 .2), fit-same (s .pre .0 .1) (c .before .before .before .before .strike-side .ensures .rest), omega arith)
+    let x = rw (c .before .before .before .before .before .before .before .before .rule-a .ensures .0, c .before .before .before .before .before .before .before .rule-b .ensures .0) at (c .before .side2 .ensures) in
+    rw x (fits-b (s .pre .0 .0) (s .args .j) (s .pre .0 .2), fit-same (s .pre .0 .1) (c .before .before .before .before .strike-side .ensures .rest), omega arith)
 
 returns : tie.Need-returns
 returns c =
     let s = c .before .before .before .before .before .before .before .before .before .before .before .before .before .before .before .before .before in
     let ra = c .before .before .before .before .before .before .before .before .before .before .before .rule-a .ensures .0 in
     let rb = c .before .before .before .before .before .before .before .before .before .before .rule-b .ensures .0 in
-    let x = rw (ra, rb) at (c .before .before .before .before .before .before .before .before .side .ensures) in
-    let y = rw (ra, rb) at (c .before .before .before .side2 .ensures) in
+    let x = rw (ra, rb) at (c .before .before .before .before .before .before .before .before .before .side .ensures) in
+    let y = rw (ra, rb) at (c .before .before .before .before .side2 .ensures) in
     rule-built (s .pre .0 .0) (s .args .j) (s .pre .0 .2) (rw x at (c .before .before .before .before .before .before .before .strike-side .ensures)) (rw y at (c .before .before .strike-side2 .ensures)) (s .pre .1)
 
 pub strike-rule-spec : {M : Type 1} → statement M

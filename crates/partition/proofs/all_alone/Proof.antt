@@ -22,14 +22,22 @@ abbrev μ-loop : tie.MeasureT-loop
 
 is-alone-requires : tie.Need-is-alone-requires Inv-loop μ-loop
 is-alone-requires c κs =
-    let a = c .before .before .before .before .args in
-    (c .before .before .before .before .pre .0, c .before .before .before .before .pre .1, c .before .before .before .before .pre .2, c .loop-test .taken, ltb-true _ _ (all-out (a .n) (λ v. ltb (classOf (a .cls .now) v) (a .k)) (c .before .before .before .before .pre .3) (c .before .loop .v) (c .loop-test .taken)))
+    let x = c .before in
+    let s = x .before .before .before in
+    let a = s .args in
+    (s .pre .0, s .pre .1, s .pre .2, c .loop-test .taken, ltb-true _ _ (all-out (a .n) (λ v. ltb (classOf (a .cls .now) v) (a .k)) (s .pre .3) (x .loop .v) (c .loop-test .taken)))
 
 returns : tie.Need-returns Inv-loop μ-loop
-returns c = record { answer = λ adj R M. sym (loop-stops _ _ _ _ (c .before .before .loop-test .taken) (c .before .is-alone .ensures .answer adj R M) (c .if1 .taken)) }
+returns c =
+    let x = c .before in
+    let y = x .before in
+    record { answer = λ adj R M. sym (loop-stops _ _ _ _ (y .loop-test .taken) (x .is-alone .ensures .answer adj R M) (c .if1 .taken)) }
 
 loop-again : tie.Need-loop-again Inv-loop μ-loop
-loop-again c = (omega arith, λ adj R M. loop-goes-on _ _ _ (c .before .before .before .loop .inv .1 adj R M) (c .before .is-alone .ensures .answer adj R M) (c .if1 .left))
+loop-again c =
+    let x = c .before in
+    let y = x .before .before in
+    (omega arith, λ adj R M. loop-goes-on _ _ _ (y .loop .inv .1 adj R M) (x .is-alone .ensures .answer adj R M) (c .if1 .left))
 
 returns-2 : tie.Need-returns-2 Inv-loop μ-loop
 returns-2 c = record { answer = λ adj R M. sym (loop-ends _ _ _ (c .before .loop .inv .0) (c .loop-test .left) (c .before .loop .inv .1 adj R M)) }

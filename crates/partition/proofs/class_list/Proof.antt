@@ -13,9 +13,6 @@ returns : tie.Need-returns
 unfolding classList
 returns c = rw (eq-eqb _ _ (c .before .if1 .taken))
 
-slice-aggregate-result-2 : tie.Need-slice-aggregate-result-2
-slice-aggregate-result-2 c = sym (length-take-le _ _ (c .before .before .pre .1))
-
 returns-2 : tie.Need-returns-2
 unfolding classList
 returns-2 c = rw (ne-eqb _ _ (c .before .if1 .left))
@@ -26,5 +23,5 @@ class-list-spec =
     (tie.spec
     slice-aggregate-result
     returns
-    slice-aggregate-result-2
+    (λ c. sym (length-take-le _ _ (c .before .before .pre .1)))  -- slice-aggregate-result-2
     returns-2)

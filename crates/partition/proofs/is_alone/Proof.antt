@@ -1,12 +1,15 @@
 -- `partition::is_alone` meets its contract. The row of v is set against the mask of its class.
 use borrow.Author.Needs.{needs}
-use native.Mathlib.Omega.{arith}
 use Rattle.partition.proofs.Testing.{alone}
 use Rattle.partition.proofs.is_alone.Statement.{statement}
 use Rattle.partition.proofs.is_alone.Tie as tie
 
 returns : tie.Need-returns
-returns c = alone (c .before .before .before .before .before .before .pre .3) (c .before .before .before .before .before .before .pre .4) (c .before .before .before .row-at .ensures) (c .before .row-at2 .ensures) (c .no-common-rows .ensures)
+returns c =
+    let x = c .before in
+    let y = x .before .before in
+    let s = y .before .before .before in
+    alone (s .pre .3) (s .pre .4) (y .row-at .ensures) (x .row-at2 .ensures) (c .no-common-rows .ensures)
 
 pub is-alone-spec : {M : Type 1} → statement M
 is-alone-spec =

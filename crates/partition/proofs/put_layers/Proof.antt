@@ -1,7 +1,7 @@
 -- `partition::put_layers` meets its contract. The invariant: the layers of the vertices below v are written.
 use borrow.Author.Needs.{needs}
 use Prim.Native.Nat.{_-_, _≤_}
-use mathlib.Core.Path.{_≡_, refl}
+use mathlib.Core.Path.{_≡_}
 use mathlib.Core.List.{_++_}
 use native.Mathlib.Omega.{arith}
 use lib.ListN.{length, drop, length-set}
@@ -23,18 +23,25 @@ loop-holds : tie.Need-loop-holds Inv-loop μ-loop
 loop-holds c = (search needs, search needs, tab-none _ (layerOf (c .before .before .args .ls .now) (c .before .before .args .k)))
 
 cast-cls : tie.Need-cast-cls Inv-loop μ-loop
-cast-cls c = omega (arith, layer-small (c .before .before .before .before .before .args .ls .now) (c .before .before .before .before .before .args .k) (c .before .before .loop .v), c .layer .ensures)
+cast-cls c =
+    let x = c .before .before in
+    let s = x .before .before .before in
+    omega (arith, layer-small (s .args .ls .now) (s .args .k) (x .loop .v), c .layer .ensures)
 
 loop-again : tie.Need-loop-again Inv-loop μ-loop
 loop-again c =
-    let a = c .before .before .before .before .before .args in
-    (omega arith, simp length-set (c .before .before .loop .inv .1), tab-more (a .cls .now) (c .before .before .loop .cls) (layerOf (a .ls .now) (a .k)) (c .before .before .loop .v) (c .layer .result) (omega arith) (c .before .before .loop .inv .2) (c .layer .ensures))
+    let x = c .before .before in
+    let s = x .before .before .before in
+    let a = s .args in
+    (omega arith, simp length-set (x .loop .inv .1), tab-more (a .cls .now) (x .loop .cls) (layerOf (a .ls .now) (a .k)) (x .loop .v) (c .layer .result) (omega arith) (x .loop .inv .2) (c .layer .ensures))
 
 returns : tie.Need-returns Inv-loop μ-loop
 unfolding layersOf
 returns c =
-    let a = c .before .before .before .before .args in
-    rw (c .before .before .before .before .pre .1) at (tab-done (a .cls .now) (c .before .loop .cls) (layerOf (a .ls .now) (a .k)) (c .before .loop .v) (omega arith) (c .before .loop .inv .2))
+    let x = c .before in
+    let s = x .before .before .before in
+    let a = s .args in
+    rw (s .pre .1) at (tab-done (a .cls .now) (x .loop .cls) (layerOf (a .ls .now) (a .k)) (x .loop .v) (omega arith) (x .loop .inv .2))
 
 pub put-layers-spec : {M : Type 1} → statement M
 put-layers-spec =

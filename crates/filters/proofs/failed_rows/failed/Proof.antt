@@ -2,7 +2,6 @@
 -- The measure: the number of live vertices, and one where a round is still due.
 use borrow.Author.Needs.{needs}
 use borrow.Author.Tests.{not-true, not-false}
-use native.Mathlib.Omega.{arith}
 use Prim.Native.Nat.{_+_, _*_}
 use Rattle.sets.specs.Below.{one, count}
 use Rattle.vset.specs.Rows.{setAt}

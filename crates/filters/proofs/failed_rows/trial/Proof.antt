@@ -2,7 +2,7 @@
 use borrow.Author.Needs.{needs}
 use native.Mathlib.Omega.{arith}
 use Rattle.sets.proofs.Sets.{meet-l}
-use Rattle.filters.proofs.FailedRows.{trial-stands, trial-struck, trial-shut}
+use Rattle.filters.proofs.TrialRows.{trial-stands, trial-struck, trial-shut}
 use Rattle.filters.proofs.Masks.{row-member}
 use Rattle.filters.proofs.failed_rows.trial.Statement.{statement}
 use Rattle.filters.proofs.failed_rows.trial.Tie as tie
@@ -10,7 +10,7 @@ use Rattle.filters.proofs.failed_rows.trial.Tie as tie
 add-to-row-requires : tie.Need-add-to-row-requires
 add-to-row-requires c κs =
     let s = c .before .before .before .before .before .before .before in
-    (search needs, row-member _ _ 0 _ (meet-l _ _ _ (s .pre .4)))
+    (search needs, row-member _ _ 0 _ (meet-l _ _ _ (s .pre .3 .live)))
 
 returns : tie.Need-returns
 returns c =
@@ -21,13 +21,13 @@ returns c =
     let s = r .before .before in
     let q = s .pre .0 in
     trial-stands (s .args .a) (q .masks-after) (q .graph-after) (q .wide) (omega (arith, q, x .cut-rows .kept .0, y .add-to-row .kept .0)) (s .pre .1) (s .pre .2)
-    (r .row-at .ensures .here) (s .pre .3) (s .pre .4) (x .cut-rows .ensures) (y .add-to-row .ensures) (z .unit-steps .ensures .0) (c .if1 .taken)
+    (r .row-at .ensures .here) (s .pre .3) (x .cut-rows .ensures) (y .add-to-row .ensures) (z .unit-steps .ensures .0) (c .if1 .taken)
 
 take-from-row-requires : tie.Need-take-from-row-requires
 take-from-row-requires c κs =
     let z = c .before .before .before .before in
     let s = z .before .before .before .before .before .before .before .before .before .before .before .before in
-    (search needs, row-member _ _ 0 _ (meet-l _ _ _ (s .pre .4)))
+    (search needs, row-member _ _ 0 _ (meet-l _ _ _ (s .pre .3 .live)))
 
 returns-2 : tie.Need-returns-2
 returns-2 c =
@@ -41,7 +41,7 @@ returns-2 c =
     let s = r .before .before in
     let q = s .pre .0 in
     trial-struck (s .args .a) (q .masks-after) (q .graph-after) (q .wide) (omega (arith, q, x .cut-rows .kept .0, y .add-to-row .kept .0)) (s .pre .1) (s .pre .2)
-    (r .row-at .ensures .here) (s .pre .3) (s .pre .4) (x .cut-rows .ensures) (y .add-to-row .ensures) (z .unit-steps .ensures .0)
+    (r .row-at .ensures .here) (s .pre .3) (x .cut-rows .ensures) (y .add-to-row .ensures) (z .unit-steps .ensures .0)
     (i .if1 .left) (v .take-from-row .ensures) (u .unit-steps2 .ensures .0) (c .if2 .taken) (u .unit-steps2 .ensures .1)
 
 returns-3 : tie.Need-returns-3
@@ -56,7 +56,7 @@ returns-3 c =
     let s = r .before .before in
     let q = s .pre .0 in
     trial-shut (s .args .a) (q .masks-after) (q .graph-after) (q .wide) (omega (arith, q, x .cut-rows .kept .0, y .add-to-row .kept .0)) (s .pre .1) (s .pre .2)
-    (r .row-at .ensures .here) (s .pre .3) (s .pre .4) (x .cut-rows .ensures) (y .add-to-row .ensures) (z .unit-steps .ensures .0)
+    (r .row-at .ensures .here) (s .pre .3) (x .cut-rows .ensures) (y .add-to-row .ensures) (z .unit-steps .ensures .0)
     (i .if1 .left) (v .take-from-row .ensures) (u .unit-steps2 .ensures .0) (c .if2 .left)
 
 pub trial-spec : {M : Type 1} → statement M

@@ -4,11 +4,10 @@ use native.Mathlib.Omega.{arith}
 use mathlib.Core.Path.{refl, ap, _∙_}
 use mathlib.Core.Bool.{true, false}
 use Rattle.sets.proofs.Tests.{clash}
-use Rattle.filters.specs.Failed.{failed}
 use Rattle.filters.specs.declared.Step.the-variants.{Open}
-use Rattle.filters.proofs.Failed.{Closed, failed-greatest}
-use Rattle.filters.proofs.FailedRows.{class-none, two-live, lower-inside, lower-live, still-two, higher-live, both-tried}
-use Rattle.filters.proofs.Steps.{not-open, open-is, step-over}
+use Rattle.filters.proofs.TrialRows.{class-none, lower-over, lower-inside, lower-one, higher-one, both-tried}
+use Rattle.filters.proofs.Masks.{counted}
+use Rattle.filters.proofs.Steps.{not-open, open-is}
 use Rattle.filters.proofs.failed_rows.try_class.Statement.{statement}
 use Rattle.filters.proofs.failed_rows.try_class.Tie as tie
 
@@ -17,8 +16,7 @@ returns c =
     let y = c .before in
     let r = y .before .before in
     let s = r .before .before in
-    let q = s .pre .0 in
-    class-none (s .args .w) (s .args .part .now) (q .masks-after) (q .graph-after) (q .wide) (s .pre .1) (s .pre .2) (r .row-at .ensures .here) (y .size-of-common-rows .ensures) (c .if1 .taken)
+    class-none (counted (s .args .w) (s .args .part .now) (s .pre .0) (s .pre .2) (r .row-at .ensures) (y .size-of-common-rows .ensures)) (c .if1 .taken)
 
 trial-requires : tie.Need-trial-requires
 trial-requires c κs =
@@ -27,31 +25,29 @@ trial-requires c κs =
     let y = i .before in
     let r = y .before .before in
     let s = r .before .before in
-    let q = s .pre .0 in
-    let e = r .row-at .ensures .here in
-    let h = y .size-of-common-rows .ensures in (
-      q,
-      s .pre .1,
-      s .pre .2,
-      two-live (s .args .w) (s .args .part .now) (q .masks-after) (q .graph-after) (q .wide) (s .pre .1) (s .pre .2) e h (i .if1 .left),
-      lower-live (s .args .w) (s .args .part .now) (q .masks-after) (q .graph-after) (q .wide) (s .pre .1) (s .pre .2) e h (i .if1 .left) (x .next-in-common-rows .ensures),
-    )
+    let C = counted (s .args .w) (s .args .part .now) (s .pre .0) (s .pre .2) (r .row-at .ensures) (y .size-of-common-rows .ensures) in
+    (s .pre .0, s .pre .1, s .pre .2, lower-one C (i .if1 .left) (x .next-in-common-rows .ensures))
 
 returns-2 : tie.Need-returns-2
 returns-2 c =
     let t = c .before .before .before .before in
-    let s = t .before .before .before .before .before .before .before .before .before in
-    let q = s .pre .0 in
-    step-over failed Closed failed-greatest (q .masks-after) (q .graph-after) (λ e. not-open false e) (rw (c .enum-told .given .1) at (t .trial .ensures))
+    let x = t .before .before in
+    let y = x .before .before .before in
+    let r = y .before .before in
+    let s = r .before .before in
+    let C = counted (s .args .w) (s .args .part .now) (s .pre .0) (s .pre .2) (r .row-at .ensures) (y .size-of-common-rows .ensures) in
+    lower-over C (x .next-in-common-rows .result) (λ e. not-open false e) (rw (c .enum-told .given .1) at (t .trial .ensures))
 
 returns-3 : tie.Need-returns-3
 returns-3 c =
     let g = c .before .before in
     let t = g .before .before .before .before in
-    let s = t .before .before .before .before .before .before .before .before .before in
-    let q = s .pre .0 in
-    step-over failed Closed failed-greatest (q .masks-after) (q .graph-after) (λ e. clash true refl (open-is true false e))
-    (rw (g .struck .given .1 ∙ ap Open (c .if2 .taken)) at (t .trial .ensures))
+    let x = t .before .before in
+    let y = x .before .before .before in
+    let r = y .before .before in
+    let s = r .before .before in
+    let C = counted (s .args .w) (s .args .part .now) (s .pre .0) (s .pre .2) (r .row-at .ensures) (y .size-of-common-rows .ensures) in
+    lower-over C (x .next-in-common-rows .result) (λ e. clash true refl (open-is true false e)) (rw (g .struck .given .1 ∙ ap Open (c .if2 .taken)) at (t .trial .ensures))
 
 add-next-in-common-rows : tie.Need-add-next-in-common-rows
 add-next-in-common-rows c =
@@ -60,10 +56,9 @@ add-next-in-common-rows c =
     let y = i .before in
     let r = y .before .before in
     let s = r .before .before in
-    let q = s .pre .0 in
-    let l = lower-inside (s .args .w) (s .args .part .now) (q .masks-after) (q .graph-after) (q .wide) (s .pre .1) (s .pre .2) (r .row-at .ensures .here) (y .size-of-common-rows .ensures)
-    (i .if1 .left) (x .next-in-common-rows .ensures) in
-    omega (arith, q .small)
+    let C = counted (s .args .w) (s .args .part .now) (s .pre .0) (s .pre .2) (r .row-at .ensures) (y .size-of-common-rows .ensures) in
+    let l = lower-inside C (i .if1 .left) (x .next-in-common-rows .ensures) in
+    omega (arith, s .pre .0 .small)
 
 next-in-common-rows-requires-2 : tie.Need-next-in-common-rows-requires-2
 next-in-common-rows-requires-2 c κs =
@@ -74,8 +69,8 @@ next-in-common-rows-requires-2 c κs =
     let r = y .before .before in
     let s = r .before .before in
     let q = s .pre .0 in
-    let l = lower-inside (s .args .w) (s .args .part .now) (q .masks-after) (q .graph-after) (q .wide) (s .pre .1) (s .pre .2) (r .row-at .ensures .here) (y .size-of-common-rows .ensures)
-    (i .if1 .left) (x .next-in-common-rows .ensures) in
+    let C = counted (s .args .w) (s .args .part .now) q (s .pre .2) (r .row-at .ensures) (y .size-of-common-rows .ensures) in
+    let l = lower-inside C (i .if1 .left) (x .next-in-common-rows .ensures) in
     (omega (arith, q, t .trial .kept .0), omega (arith, q, t .trial .kept .0, r .row-at .ensures), q .small, omega arith)
 
 trial-requires-2 : tie.Need-trial-requires-2
@@ -89,15 +84,11 @@ trial-requires-2 c κs =
     let y = i .before in
     let r = y .before .before in
     let s = r .before .before in
-    let q = s .pre .0 in
-    let S = rw (g .struck .given .1 ∙ ap Open (o .if2 .left)) at (t .trial .ensures) in (
+    let C = counted (s .args .w) (s .args .part .now) (s .pre .0) (s .pre .2) (r .row-at .ensures) (y .size-of-common-rows .ensures) in (
       search needs,
       s .pre .1,
       s .pre .2,
-      still-two (s .args .w) (s .args .part .now) (q .masks-after) (q .graph-after) (q .wide) (s .pre .1) (s .pre .2) (r .row-at .ensures .here) (y .size-of-common-rows .ensures)
-          (i .if1 .left) (x .next-in-common-rows .ensures) S,
-      higher-live (s .args .w) (s .args .part .now) (q .masks-after) (q .graph-after) (q .wide) (s .pre .1) (s .pre .2) (r .row-at .ensures .here) (y .size-of-common-rows .ensures)
-          (i .if1 .left) (x .next-in-common-rows .ensures) S (z .next-in-common-rows2 .ensures),
+      higher-one C (i .if1 .left) (x .next-in-common-rows .ensures) (rw (g .struck .given .1 ∙ ap Open (o .if2 .left)) at (t .trial .ensures)) (z .next-in-common-rows2 .ensures),
     )
 
 returns-4 : tie.Need-returns-4
@@ -112,9 +103,8 @@ returns-4 c =
     let y = i .before in
     let r = y .before .before in
     let s = r .before .before in
-    let q = s .pre .0 in
-    both-tried (s .args .w) (s .args .part .now) (q .masks-after) (q .graph-after) (q .wide) (s .pre .1) (s .pre .2) (r .row-at .ensures .here) (y .size-of-common-rows .ensures)
-    (i .if1 .left) (x .next-in-common-rows .ensures) (rw (g .struck .given .1 ∙ ap Open (o .if2 .left)) at (t .trial .ensures)) (z .next-in-common-rows2 .ensures)
+    let C = counted (s .args .w) (s .args .part .now) (s .pre .0) (s .pre .2) (r .row-at .ensures) (y .size-of-common-rows .ensures) in
+    both-tried C (i .if1 .left) (x .next-in-common-rows .ensures) (rw (g .struck .given .1 ∙ ap Open (o .if2 .left)) at (t .trial .ensures)) (z .next-in-common-rows2 .ensures)
     (t₂ .trial2 .result) (t₂ .trial2 .ensures)
 
 pub try-class-spec : {M : Type 1} → statement M

@@ -37,14 +37,14 @@ pre-filter-spec =
     (tie.spec
     Inv-loop
     μ-loop
-    (λ c. search needs)  -- add-u
+    (λ c. search needs)
     loop-holds
-    (λ c κs. search needs)  -- row-at-requires
-    (λ c κs. search needs)  -- meet-requires
-    (λ c κs. search needs)  -- turn-requires
-    (λ c. search needs)  -- add-e
-    (λ c. search needs)  -- loop-less
+    (λ c κs. search needs)
+    (λ c κs. search needs)
+    (λ c κs. search needs)
+    (λ c. search needs)
+    (λ c. search needs)
     loop-again
-    (λ c κs. search needs)  -- is-open-requires
-    (λ c. search needs)  -- same-length
+    (λ c κs. search needs)
+    (λ c. search needs)
     returns)

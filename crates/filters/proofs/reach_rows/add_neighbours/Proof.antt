@@ -1,8 +1,6 @@
 -- `filters::reach_rows::add_neighbours` meets its contract. The invariant: the rows of the members below v are added.
 use borrow.Author.Needs.{needs}
-use Prim.Native.Nat.{_*_, _-_, _+_}
-use native.Mathlib.Omega.{arith}
-use mathlib.Core.Path.{_≡_}
+use Prim.Native.Nat.{_*_, _-_}
 use Rattle.filters.proofs.ReachRows.{Uniting, uniting-start, uniting-more, uniting-end}
 use Rattle.filters.proofs.reach_rows.add_neighbours.Statement.{statement}
 use Rattle.filters.proofs.reach_rows.add_neighbours.Tie as tie
@@ -36,13 +34,13 @@ add-neighbours-spec =
     (tie.spec
     Inv-loop
     μ-loop
-    (λ c κs. search needs)  -- next-in-requires
+    (λ c κs. search needs)
     loop-holds
-    (λ c κs. search needs)  -- row-at-requires
-    (λ c κs. search needs)  -- join-requires
-    (λ c. search needs)  -- add-next-in
-    (λ c κs. search needs)  -- next-in-requires-2
-    (λ c. search needs)  -- loop-less
+    (λ c κs. search needs)
+    (λ c κs. search needs)
+    (λ c. search needs)
+    (λ c κs. search needs)
+    (λ c. search needs)
     loop-again
-    (λ c. search needs)  -- same-length
+    (λ c. search needs)
     returns)

@@ -1,6 +1,5 @@
 -- `filters::reach_rows::strike_unreached` meets its contract.
 use borrow.Author.Needs.{needs}
-use native.Mathlib.Omega.{arith}
 use Rattle.filters.proofs.ReachRows.{struck}
 use Rattle.filters.proofs.reach_rows.strike_unreached.Statement.{statement}
 use Rattle.filters.proofs.reach_rows.strike_unreached.Tie as tie
@@ -17,9 +16,9 @@ pub strike-unreached-spec : {M : Type 1} → statement M
 strike-unreached-spec =
     tie.close
     (tie.spec
-    (λ c. search needs)  -- add-u
-    (λ c κs. search needs)  -- meet-requires
-    (λ c κs. search needs)  -- unite-requires
-    (λ c κs. search needs)  -- meet-requires-2
-    (λ c. search needs)  -- same-length
+    (λ c. search needs)
+    (λ c κs. search needs)
+    (λ c κs. search needs)
+    (λ c κs. search needs)
+    (λ c. search needs)
     returns)

@@ -41,15 +41,15 @@ sweep-spec =
     (tie.spec
     Inv-loop
     μ-loop
-    (λ c. search needs)  -- add-a
-    (λ c. search needs)  -- add-a-2
-    (λ c κs. search needs)  -- clear-requires
+    (λ c. search needs)
+    (λ c. search needs)
+    (λ c κs. search needs)
     loop-holds
-    (λ c κs. search needs)  -- row-at-requires
-    (λ c κs. search needs)  -- push-requires
-    (λ c. search needs)  -- add-e
-    (λ c. search needs)  -- loop-less
+    (λ c κs. search needs)
+    (λ c κs. search needs)
+    (λ c. search needs)
+    (λ c. search needs)
     loop-again
-    (λ c κs. search needs)  -- is-open-requires
-    (λ c. search needs)  -- same-length
+    (λ c κs. search needs)
+    (λ c. search needs)
     returns)

@@ -1,6 +1,5 @@
 -- `filters::sweep_rows::sweep_by` meets its contract.
 use borrow.Author.Needs.{needs}
-use native.Mathlib.Omega.{arith}
 use Rattle.filters.proofs.ReachRows.{swept-by}
 use Rattle.filters.proofs.sweep_rows.sweep_by.Statement.{statement}
 use Rattle.filters.proofs.sweep_rows.sweep_by.Tie as tie
@@ -17,10 +16,10 @@ pub sweep-by-spec : {M : Type 1} → statement M
 sweep-by-spec =
     tie.close
     (tie.spec
-    (λ c. search needs)  -- add-u
-    (λ c. search needs)  -- add-a
-    (λ c κs. search needs)  -- join-requires
-    (λ c κs. search needs)  -- meet-requires
-    (λ c κs. search needs)  -- turn-requires
-    (λ c. search needs)  -- same-length
+    (λ c. search needs)
+    (λ c. search needs)
+    (λ c κs. search needs)
+    (λ c κs. search needs)
+    (λ c κs. search needs)
+    (λ c. search needs)
     returns)

@@ -1,6 +1,7 @@
 -- `filters::unit_rows::visit` meets its contract: by the number of live vertices of the class.
 use borrow.Author.Needs.{needs}
 use native.Mathlib.Omega.{arith}
+use Rattle.filters.proofs.Masks.{counted}
 use Rattle.filters.proofs.UnitRows.{visit-shut, visit-more, visit-none, visit-struck}
 use Rattle.filters.proofs.unit_rows.visit.Statement.{statement}
 use Rattle.filters.proofs.unit_rows.visit.Tie as tie
@@ -10,16 +11,16 @@ returns c d h =
     let z = c .before in
     let r = z .before .before in
     let s = r .before .before in
-    let q = s .pre .0 in
-    visit-shut (q .masks-after) (q .graph-after) (q .wide) (s .pre .1) (r .row-at .ensures .here) (z .size-of-common-rows .ensures) d h (c .if1 .taken)
+    let C = counted (s .args .w) (s .args .part .now) (s .pre .0) (s .pre .1) (r .row-at .ensures) (z .size-of-common-rows .ensures) in
+    visit-shut C d h (c .if1 .taken)
 
 returns-2 : tie.Need-returns-2
 returns-2 c d h =
     let z = c .before .before in
     let r = z .before .before in
     let s = r .before .before in
-    let q = s .pre .0 in
-    visit-more (q .masks-after) (q .graph-after) (q .wide) (s .pre .1) (r .row-at .ensures .here) (z .size-of-common-rows .ensures) d h (c .if2 .taken)
+    let C = counted (s .args .w) (s .args .part .now) (s .pre .0) (s .pre .1) (r .row-at .ensures) (z .size-of-common-rows .ensures) in
+    visit-more C d h (c .if2 .taken)
 
 returns-3 : tie.Need-returns-3
 returns-3 c d h =
@@ -27,8 +28,8 @@ returns-3 c d h =
     let z = y .before .before .before .before in
     let r = z .before .before in
     let s = r .before .before in
-    let q = s .pre .0 in
-    visit-none (q .masks-after) (q .graph-after) (q .wide) (s .pre .1) (r .row-at .ensures .here) (z .size-of-common-rows .ensures) d h
+    let C = counted (s .args .w) (s .args .part .now) (s .pre .0) (s .pre .1) (r .row-at .ensures) (z .size-of-common-rows .ensures) in
+    visit-none C d h
     (omega arith) (y .next-in-common-rows .ensures) (c .if3 .taken)
 
 returns-4 : tie.Need-returns-4
@@ -39,8 +40,8 @@ returns-4 c d h =
     let z = y .before .before .before .before in
     let r = z .before .before in
     let s = r .before .before in
-    let q = s .pre .0 in
-    visit-struck (q .masks-after) (q .graph-after) (q .wide) (s .pre .1) (r .row-at .ensures .here) (z .size-of-common-rows .ensures) d h
+    let C = counted (s .args .w) (s .args .part .now) (s .pre .0) (s .pre .1) (r .row-at .ensures) (z .size-of-common-rows .ensures) in
+    visit-struck C d h
     (omega arith) (y .next-in-common-rows .ensures) (i .if3 .left) (x .strike-others .ensures)
 
 pub visit-spec : {M : Type 1} → statement M

@@ -1,6 +1,6 @@
 -- `graph::span::take_span` meets its contract. The invariant: the row has lost the stretch up to v.
 use borrow.Author.Needs.{needs}
-use Prim.Native.Nat.{_+_, _*_, _-_, _≤_}
+use Prim.Native.Nat.{_-_, _≤_}
 use mathlib.Core.Path.{_≡_}
 use native.Mathlib.Omega.{arith}
 use Rattle.sets.specs.Sets.{_∖_}

@@ -1,7 +1,7 @@
 -- `graph::strike::mark_unlisted` meets its contract. The invariant: the partners by the first i pair rows are taken from the stretch.
 use borrow.Author.Needs.{needs}
-use Prim.Native.Nat.{_+_, _*_, _-_, _≤_}
-use mathlib.Core.Path.{_≡_, refl, _∙_}
+use Prim.Native.Nat.{_-_, _≤_}
+use mathlib.Core.Path.{_≡_, refl}
 use native.Mathlib.Omega.{arith}
 use Rattle.sets.specs.Sets.{_∖_}
 use Rattle.vset.specs.Rows.{setAt, Put}

@@ -1,6 +1,6 @@
 -- `graph::strike::strike_near` meets its contract. The invariant: what clashes in the stretch up to v is struck.
 use borrow.Author.Needs.{needs}
-use Prim.Native.Nat.{_+_, _*_, _-_, _≤_}
+use Prim.Native.Nat.{_-_, _≤_}
 use mathlib.Core.Path.{_≡_}
 use native.Mathlib.Omega.{arith}
 use Rattle.sets.specs.Sets.{_∩_, _∖_}

@@ -2,7 +2,6 @@
 use borrow.Author.Needs.{needs}
 use Prim.Native.Nat.{_-_}
 use mathlib.Core.Path.{refl}
-use native.Mathlib.Omega.{arith}
 use Rattle.partition.proofs.Filling.{Filling, filling-none, filling-more, filling-all, space-stays}
 use Rattle.partition.proofs.classes.fill_class.Statement.{statement}
 use Rattle.partition.proofs.classes.fill_class.Tie as tie
@@ -14,17 +13,33 @@ abbrev μ-loop : tie.MeasureT-loop
 μ-loop part₀ w graph n k m c cls₀ i₀ part cls i = m - i
 
 loop-holds : tie.Need-loop-holds Inv-loop μ-loop
-loop-holds c = filling-none (c .before .before .clear-row .ensures) (c .before .before .before .before .before .before .pre .1)
+loop-holds c =
+    let x = c .before .before in
+    let s = x .before .before .before .before in
+    filling-none (x .clear-row .ensures) (s .pre .1)
 
 try-join-requires : tie.Need-try-join-requires Inv-loop μ-loop
-try-join-requires c κs = (space-stays (c .before .before .before .before .loop .inv .rest) (space-stays (c .before .before .before .before .before .before .before .clear-row .ensures .rest) (c .before .before .before .before .before .before .before .before .before .before .before .pre .0)), c .before .before .before .before .loop .inv .long, c .before .before .before .before .before .before .before .before .before .before .before .pre .3)
+try-join-requires c κs =
+    let x = c .before .before .before .before in
+    let y = x .before .before .before in
+    let s = y .before .before .before .before in
+    (space-stays (x .loop .inv .rest) (space-stays (y .clear-row .ensures .rest) (s .pre .0)), x .loop .inv .long, s .pre .3)
 
 loop-again : tie.Need-loop-again Inv-loop μ-loop
 loop-again c =
-    filling-more (c .before .before .before .before .before .before .before .before .before .loop .inv) (space-stays (c .before .before .before .before .before .before .before .before .before .before .before .before .clear-row .ensures .rest) (c .before .before .before .before .before .before .before .before .before .before .before .before .before .before .before .before .pre .0)) (c .before .before .before .before .before .before .before .before .before .before .before .before .before .before .before .before .pre .2) (c .before .before .before .before .before .before .before .before .loop-test .taken) refl (c .before .before .before .before .try-join .ensures) (search needs)
+    let x = c .before .before .before .before in
+    let y = x .before .before .before .before in
+    let z = y .before in
+    let x₁ = z .before .before .before in
+    let s = x₁ .before .before .before .before in
+    filling-more (z .loop .inv) (space-stays (x₁ .clear-row .ensures .rest) (s .pre .0)) (s .pre .2) (y .loop-test .taken) refl (x .try-join .ensures) (search needs)
 
 returns : tie.Need-returns Inv-loop μ-loop
-returns c = filling-all (c .before .loop .inv) (space-stays (c .before .before .before .before .clear-row .ensures .rest) (c .before .before .before .before .before .before .before .before .pre .0)) (c .before .before .before .before .before .before .before .before .pre .2) (c .loop-test .left) (c .before .before .before .before .clear-row .ensures .rest)
+returns c =
+    let x = c .before in
+    let y = x .before .before .before in
+    let s = y .before .before .before .before in
+    filling-all (x .loop .inv) (space-stays (y .clear-row .ensures .rest) (s .pre .0)) (s .pre .2) (c .loop-test .left) (y .clear-row .ensures .rest)
 
 pub fill-class-spec : {M : Type 1} → statement M
 fill-class-spec =

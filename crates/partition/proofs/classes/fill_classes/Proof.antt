@@ -13,16 +13,30 @@ abbrev μ-loop : tie.MeasureT-loop
 μ-loop part₀ w graph n k m cls₀ c₀ part cls c = k - c
 
 loop-holds : tie.Need-loop-holds Inv-loop μ-loop
-loop-holds c = filling-all-none (search needs) (rw (c .before .before .before .before .before .before .pre .1) at (c .before .before .unplace .ensures))
+loop-holds c =
+    let x = c .before .before in
+    let s = x .before .before .before .before in
+    filling-all-none (search needs) (rw (s .pre .1) at (x .unplace .ensures))
 
 fill-class-requires : tie.Need-fill-class-requires Inv-loop μ-loop
-fill-class-requires c κs = (space-stays (c .before .before .before .loop .inv .rest) (c .before .before .before .before .before .before .before .before .before .before .pre .0), c .before .before .before .loop .inv .long, c .before .before .before .before .before .before .before .before .before .before .pre .2, omega arith)
+fill-class-requires c κs =
+    let x = c .before .before .before in
+    let s = x .before .before .before .before .before .before .before in
+    (space-stays (x .loop .inv .rest) (s .pre .0), x .loop .inv .long, s .pre .2, omega arith)
 
 loop-again : tie.Need-loop-again Inv-loop μ-loop
-loop-again c = filling-all-more (c .before .before .before .before .before .before .before .before .loop .inv) (c .before .before .before .before .before .before .before .before .before .before .before .before .before .before .before .pre .0) (c .before .before .before .before .before .before .before .before .before .before .before .before .before .before .before .pre .2) (c .before .before .before .before .before .before .before .loop-test .taken) (c .before .before .before .before .fill-class .ensures) (search needs)
+loop-again c =
+    let x = c .before .before .before .before in
+    let y = x .before .before .before in
+    let z = y .before in
+    let s = z .before .before .before .before .before .before .before in
+    filling-all-more (z .loop .inv) (s .pre .0) (s .pre .2) (y .loop-test .taken) (x .fill-class .ensures) (search needs)
 
 returns : tie.Need-returns Inv-loop μ-loop
-returns c = filling-all-done (c .before .loop .inv) (c .before .before .before .before .before .before .before .before .pre .0) (c .before .before .before .before .before .before .before .before .pre .2) (c .loop-test .left)
+returns c =
+    let x = c .before in
+    let s = x .before .before .before .before .before .before .before in
+    filling-all-done (x .loop .inv) (s .pre .0) (s .pre .2) (c .loop-test .left)
 
 pub fill-classes-spec : {M : Type 1} → statement M
 fill-classes-spec =

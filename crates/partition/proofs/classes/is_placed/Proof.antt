@@ -1,6 +1,6 @@
 -- `partition::classes::is_placed` meets its contract. The invariant: the vertices below v have a class below k.
 use borrow.Author.Needs.{needs}
-use Prim.Native.Nat.{ℕ, _-_, _≤_}
+use Prim.Native.Nat.{ℕ, _-_, _≤_, _<_}
 use mathlib.Core.Bool.{true}
 use mathlib.Core.Path.{_≡_, sym}
 use native.Mathlib.Omega.{arith}
@@ -23,10 +23,20 @@ cast-if1 : tie.Need-cast-if1 Inv-loop μ-loop
 cast-if1 c = omega (arith, c .shared-slice-known .given (c .before .before .loop .v))
 
 returns : tie.Need-returns Inv-loop μ-loop
-returns c = sym (all-false _ _ (c .before .before .before .loop .v) (c .before .before .loop-test .taken) (le-ltb _ _ (c .if1 .taken)))
+returns c =
+    let x = c .before .before in
+    let y = x .before in
+    let s = y .before in
+    let v = y .loop .v in
+    let h : s .args .k ≤ classOf (s .args .cls .now) v = omega arith in
+    sym (all-false _ _ v (x .loop-test .taken) (le-ltb _ _ h))
 
 loop-again : tie.Need-loop-again Inv-loop μ-loop
-loop-again c = (omega arith, rw all-step (and-in (c .before .before .before .loop .inv .1) (lt-ltb _ _ (c .if1 .left))))
+loop-again c =
+    let x = c .before .before .before in
+    let s = x .before in
+    let h : classOf (s .args .cls .now) (x .loop .v) < s .args .k = omega arith in
+    (omega arith, rw all-step (and-in (x .loop .inv .1) (lt-ltb _ _ h)))
 
 returns-2 : tie.Need-returns-2 Inv-loop μ-loop
 returns-2 c = sym (loop-ends _ _ _ (c .before .loop .inv .0) (c .loop-test .left) (c .before .loop .inv .1))

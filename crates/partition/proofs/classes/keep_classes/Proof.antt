@@ -19,10 +19,11 @@ cast-part : tie.Need-cast-part Inv-loop μ-loop
 cast-part c = omega (arith, c .shared-slice-known .given (c .before .before .loop .v))
 
 loop-again : tie.Need-loop-again Inv-loop μ-loop
-loop-again c = writing-more _ (c .before .before .loop .inv) (c .before .loop-test .taken) (c .before .before .before .pre) refl
-
-returns : tie.Need-returns Inv-loop μ-loop
-returns c = keeping-all (c .before .loop .inv) (c .loop-test .left)
+loop-again c =
+    let x = c .before in
+    let y = x .before in
+    let s = y .before in
+    writing-more _ (y .loop .inv) (x .loop-test .taken) (s .pre) refl
 
 pub keep-classes-spec : {M : Type 1} → statement M
 keep-classes-spec =
@@ -39,4 +40,4 @@ keep-classes-spec =
     (λ c. search needs)  -- loop-less
     loop-again
     (λ c. search needs)  -- same-length
-    returns)
+    (λ c. keeping-all (c .before .loop .inv) (c .loop-test .left)))  -- returns

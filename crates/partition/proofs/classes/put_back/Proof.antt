@@ -17,13 +17,13 @@ abbrev μ-loop : tie.MeasureT-loop
 μ-loop part cls₀ v₀ cls v = length cls₀ - v
 
 cast-cls : tie.Need-cast-cls Inv-loop μ-loop
-cast-cls c = omega (arith, c .before .before .before .pre .1 (c .before .before .loop .v) (omega arith))
+cast-cls c =
+    let x = c .before .before in
+    let s = x .before in
+    omega (arith, s .pre .1 (x .loop .v) (omega arith))
 
 loop-again : tie.Need-loop-again Inv-loop μ-loop
 loop-again c = (omega arith, simp length-set (c .before .before .loop .inv .1), tab-more _ _ _ _ _ (omega arith) (c .before .before .loop .inv .2) refl)
-
-returns : tie.Need-returns Inv-loop μ-loop
-returns c = tab-done _ _ _ _ (omega arith) (c .before .loop .inv .2)
 
 pub put-back-spec : {M : Type 1} → statement M
 put-back-spec =
@@ -40,4 +40,4 @@ put-back-spec =
     (λ c. search needs)  -- loop-less
     loop-again
     (λ c. search needs)  -- same-length
-    returns)
+    (λ c. tab-done _ _ _ _ (omega arith) (c .before .loop .inv .2)))  -- returns

@@ -18,16 +18,20 @@ abbrev μ-loop : tie.MeasureT-loop
 
 loop-again : tie.Need-loop-again Inv-loop μ-loop
 loop-again c =
-    let a = c .before .before .args in
-    let v = c .before .loop .v in
+    let x = c .before in
+    let s = x .before in
+    let a = s .args in
+    let v = x .loop .v in
     let h : v < length (a .cls .now) = omega arith in
-    (omega arith, simp length-set (c .before .loop .inv .1), ap (λ (l : List _). set l v (a .k)) (c .before .loop .inv .2) ∙ fill-more v (a .k) (a .cls .now) h)
+    (omega arith, simp length-set (x .loop .inv .1), ap (λ (l : List _). set l v (a .k)) (x .loop .inv .2) ∙ fill-more v (a .k) (a .cls .now) h)
 
 returns : tie.Need-returns Inv-loop μ-loop
 returns c =
-    let a = c .before .before .args in
-    let e : c .before .loop .v ≡ length (a .cls .now) = omega arith in
-    (rw e at (c .before .loop .inv .2)) ∙ ap (λ (z : List _). replicate (length (a .cls .now)) (a .k) ++ z) (drop-length (a .cls .now)) ∙ append-nil _
+    let x = c .before in
+    let s = x .before in
+    let a = s .args in
+    let e : x .loop .v ≡ length (a .cls .now) = omega arith in
+    (rw e at (x .loop .inv .2)) ∙ ap (λ (z : List _). replicate (length (a .cls .now)) (a .k) ++ z) (drop-length (a .cls .now)) ∙ append-nil _
 
 pub unplace-spec : {M : Type 1} → statement M
 unplace-spec =

@@ -5,7 +5,11 @@ use Rattle.partition.proofs.masks.add_member.Statement.{statement}
 use Rattle.partition.proofs.masks.add_member.Tie as tie
 
 returns-2 : tie.Need-returns-2
-returns-2 c = marked (c .before .before .before .before .before .if1 .left) (c .before .before .before .before .row-at .ensures) (c .before .before .add-to-row .ensures)
+returns-2 c =
+    let x = c .before .before in
+    let y = x .before .before in
+    let z = y .before in
+    marked (z .if1 .left) (y .row-at .ensures) (x .add-to-row .ensures)
 
 pub add-member-spec : {M : Type 1} → statement M
 add-member-spec =

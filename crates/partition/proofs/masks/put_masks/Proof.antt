@@ -1,6 +1,6 @@
 -- `partition::masks::put_masks` meets its contract. The invariant: the rows are the masks of the vertices below v.
 use borrow.Author.Needs.{needs}
-use Prim.Native.Nat.{_+_, _-_, _*_, _≤_}
+use Prim.Native.Nat.{_-_, _≤_}
 use mathlib.Core.Path.{_≡_}
 use native.Mathlib.Omega.{arith}
 use Rattle.partition.specs.Words.{Masks}
@@ -15,19 +15,29 @@ abbrev μ-loop : tie.MeasureT-loop
 μ-loop cls n k w at part₀ v₀ part v = n - v
 
 loop-holds : tie.Need-loop-holds Inv-loop μ-loop
-loop-holds c = (search needs, masks-none (c .before .before .before .before .before .before .args .cls .now) (c .before .before .clear-row .ensures))
+loop-holds c =
+    let x = c .before .before in
+    let s = x .before .before .before .before in
+    (search needs, masks-none (s .args .cls .now) (x .clear-row .ensures))
 
 cast-add-member : tie.Need-cast-add-member Inv-loop μ-loop
-cast-add-member c = omega (arith, c .shared-slice-known2 .given (c .before .before .loop .v))
-
-add-member-requires : tie.Need-add-member-requires Inv-loop μ-loop
-add-member-requires c κs = omega (arith, c .before .before .before .loop .inv .1 .rest .len)
+cast-add-member c =
+    let x = c .before .before in
+    omega (arith, c .shared-slice-known2 .given (x .loop .v))
 
 loop-again : tie.Need-loop-again Inv-loop μ-loop
-loop-again c = (search needs, masks-more (c .before .before .before .before .before .before .before .before .before .before .before .before .before .args .cls .now) (c .before .before .before .before .before .before .loop .inv .1) (c .before .before .add-member .ensures))
+loop-again c =
+    let x = c .before .before in
+    let y = x .before .before .before .before in
+    let s = y .before .before .before .before .before .before .before in
+    (search needs, masks-more (s .args .cls .now) (y .loop .inv .1) (x .add-member .ensures))
 
 returns : tie.Need-returns Inv-loop μ-loop
-returns c = let e : c .before .loop .v ≡ c .before .before .before .before .before .before .before .before .args .n = omega arith in masks-after (c .before .before .before .before .clear-row .ensures .rest) (rw e at (c .before .loop .inv .1))
+returns c =
+    let x = c .before in
+    let y = x .before .before .before in
+    let s = y .before .before .before .before in
+    let e : x .loop .v ≡ s .args .n = omega arith in masks-after (y .clear-row .ensures .rest) (rw e at (x .loop .inv .1))
 
 pub put-masks-spec : {M : Type 1} → statement M
 put-masks-spec =
@@ -40,7 +50,7 @@ put-masks-spec =
     loop-holds
     (λ c. search needs)  -- shared-slice-read-add-member
     cast-add-member
-    add-member-requires
+    (λ c κs. omega (arith, c .before .before .before .loop .inv .1 .rest .len))  -- add-member-requires
     (λ c. search needs)  -- add-v
     (λ c. search needs)  -- loop-less
     loop-again
