@@ -24,6 +24,7 @@ fn strike_others(part: &mut [u64], w: usize, m: usize, graph: usize, n: usize, v
     ensures { λ r. ⌜ StruckOthers w m graph v (now (part .entry)) (now (part .exit)) r ⌝ }
 {
     let g = row_at(graph, w, v, n);
+    // row 1: who may stay, then who is to be struck
     join_rows(part, w, w, g, m);
     cut_rows(part, w, w, 0, w);
     if no_common_rows(part, w, w, w) {
@@ -55,6 +56,7 @@ fn visit(
         return Step::Open { struck: false };
     }
     let v = next_in_common_rows(part, w, 0, m, 0);
+    // never at a node: there each live vertex is below n
     if v >= n {
         return Step::Open { struck: false };
     }

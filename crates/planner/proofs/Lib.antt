@@ -1,4 +1,10 @@
+pub mod Bounds
+pub mod Zeros
+pub mod Links
+pub mod Sections
+pub mod Tellings
 pub mod Cases
 pub mod Accepted
 pub mod Answers
 pub mod Demands
+pub mod Outcomes

@@ -1,4 +1,7 @@
 pub mod Outcome
+pub mod Call
+pub mod Filled
+pub mod Planned
 pub mod Text
 pub mod Demands
 pub mod Encode
