@@ -18,9 +18,12 @@ cellByte cells i = getD cells (i / 4) 0 / 256 ^ (i % 4) % 256
 unfoldable pub cellBytes : List ℕ → ℕ → List ℕ
 cellBytes cells room = tabulate room (cellByte cells)
 
--- the cells in some bytes: "neither call counts" a remainder
+-- cell l in some bytes, and all of them: "neither call counts" a remainder
+unfoldable pub cellIn : List ℕ → ℕ → ℕ
+cellIn bytes l = le32 bytes (4 * l)
+
 unfoldable pub cellsIn : List ℕ → List ℕ
-cellsIn bytes = tabulate (length bytes / 4) (λ l. le32 bytes (4 * l))
+cellsIn bytes = tabulate (length bytes / 4) (cellIn bytes)
 
 -- the planning call with `room` bytes for its cells. "That planning call has work words of its own, so 11 does not arise there"
 unfoldable pub consoleOutcome : List ℕ → ℕ → ℕ → ℕ → List ℕ → ℕ → Outcome

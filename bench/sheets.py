@@ -1,0 +1,79 @@
+"""Sheets to measure with, each made from a fixed seed."""
+
+import random
+from dataclasses import dataclass
+
+from jobsheet.binary import EXACT, LISTED, SPACING, Rule, Sheet
+
+RASTER = 25  # kHz
+
+
+@dataclass
+class Sample:
+    """A sheet with the family it belongs to."""
+    family: str
+    name: str
+    sheet: Sheet
+
+
+def spaced(seed, links, frequencies, band, density, value):
+    """Random lists in a band of so many kHz; a kind 1 rule of this value for each two links with this likelihood."""
+    rng = random.Random(seed)
+    lists = [sorted(600_000 + RASTER * slot for slot in rng.sample(range(band // RASTER), frequencies)) for _ in range(links)]
+    rules = [Rule(a, b, SPACING, value) for a in range(links) for b in range(a + 1, links) if rng.random() < density]
+    return Sheet(lists, rules)
+
+
+def tables(seed, links, frequencies, density, allowed):
+    """A kind 3 rule of so many random pairs for each two links with this likelihood."""
+    rng = random.Random(seed)
+    lists = [sorted(600_000 + RASTER * slot for slot in rng.sample(range(400), frequencies)) for _ in range(links)]
+    every = [(p, q) for p in range(frequencies) for q in range(frequencies)]
+    rules = [Rule(a, b, LISTED, 0, sorted(rng.sample(every, allowed)))
+             for a in range(links) for b in range(a + 1, links) if rng.random() < density]
+    return Sheet(lists, rules)
+
+
+def theatre(seed):
+    """16 links: twelve body packs and a handheld in channel 38, two ear monitors and a talkback elsewhere."""
+    rng = random.Random(seed)
+    pack, ears = range(606_500, 613_501, RASTER), range(823_000, 832_001, RASTER)
+    lists = [sorted(rng.sample(pack, 7)) for _ in range(13)] + [sorted(rng.sample(ears, 6)) for _ in range(3)]
+    rules = [Rule(a, b, SPACING, 250) for a in range(13) for b in range(a + 1, 13)]
+    rules += [Rule(a, b, SPACING, 1000) for a, b in ((13, 14), (14, 15))]
+    rules.append(Rule(13, 15, EXACT, abs(lists[13][2] - lists[15][3]) or RASTER))
+    return Sheet(lists, sorted(rules, key=lambda rule: (rule.a, rule.b)))
+
+
+def crowded(links, frequencies):
+    """More links than frequencies, all in one room: no plan."""
+    lists = [[606_500 + 500 * i for i in range(frequencies)] for _ in range(links)]
+    return Sheet(lists, [Rule(a, b, SPACING, 400) for a in range(links) for b in range(a + 1, links)])
+
+
+def document_example_1():
+    """Document 000, Example 1."""
+    pairs = {(0, 1): [(0, 0), (0, 1), (1, 2), (2, 2)], (0, 2): [(0, 0), (1, 1)], (0, 3): [(0, 0)],
+             (1, 2): [(0, 0), (1, 0), (1, 1), (2, 1)], (1, 3): [(0, 0)], (2, 3): [(0, 0), (1, 1), (1, 2)]}
+    return Sheet([[1, 3, 5], [1, 2, 3], [5, 6], [1, 2, 3]], [Rule(a, b, LISTED, 0, listed) for (a, b), listed in pairs.items()])
+
+
+def document_example_3():
+    """Document 000, Example 3."""
+    pairs = {(0, 1): [(0, 0), (1, 0), (1, 1), (1, 2)], (0, 2): [(0, 0)], (1, 2): [(1, 0)]}
+    return Sheet([[1, 2], [1, 2, 3], [1]], [Rule(a, b, LISTED, 0, listed) for (a, b), listed in pairs.items()])
+
+
+def samples(quick=False):
+    """Every sheet that bench/run measures. Near the edge, about half of the sheets of such numbers have a plan."""
+    most = 1 if quick else 4
+    found = [Sample("document 000", "Example 1", document_example_1()), Sample("document 000", "Example 3", document_example_3())]
+    found += [Sample("theatre", f"16 links, seed {seed}", theatre(seed)) for seed in range(1, 1 + min(most, 2))]
+    found += [Sample("64 × 8 loose", f"seed {seed}", spaced(seed, 64, 8, 10_000, 0.3, 500)) for seed in range(1, 1 + min(most, 2))]
+    found += [Sample("64 × 8 near the edge", f"seed {seed}", spaced(seed, 64, 8, 10_000, 0.05, 3200)) for seed in range(1, 1 + most)]
+    found += [Sample("20 × 25 near the edge", f"seed {seed}", spaced(seed, 20, 25, 10_000, 0.3, 2950)) for seed in range(1, 1 + most)]
+    for links, density, allowed in ((20, 0.4, 39), (25, 0.32, 39), (30, 0.27, 39)):
+        found += [Sample("tables near the edge", f"{links} × 8, seed {seed}", tables(seed, links, 8, density, allowed))
+                  for seed in range(1, 1 + min(most, 2))]
+    found += [Sample("no plan", f"{links} links, {links - 1} frequencies", crowded(links, links - 1)) for links in ((8,) if quick else (8, 9))]
+    return found

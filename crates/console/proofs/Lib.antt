@@ -1,0 +1,2 @@
+pub mod FewerCells
+pub mod Handed

@@ -1,0 +1,156 @@
+"""Tests of the console library: the header against the archive, the C example, the two functions against the reading of the scope."""
+
+import random
+import re
+from collections import Counter
+
+import native
+import reading
+import samples
+from harness import EXAMPLES, PROGRAM, example_sheets, need, printed_by_program, test
+from jobsheet import binary
+from native import ARCHIVE, ROOT, SANITIZE, WARNINGS, run
+
+
+# ---- The library and the header
+
+@test("the archive and the program are there")
+def _(_):
+    for path, made_by in ((ARCHIVE, "rt staticlib console"), (PROGRAM, "rt check plan")):
+        need(path.exists(), f"{path.relative_to(ROOT)} is missing: '{made_by}' writes it")
+
+
+@test("header: compiles alone as C99, C11 and C++17")
+def _(_):
+    for compiler, kind, standard in (("gcc", "c", "c99"), ("gcc", "c", "c11"), ("g++", "c++", "c++17")):
+        done = run([compiler, f"-std={standard}", *WARNINGS, "-fsyntax-only", "-x", kind, ROOT / "include" / "guvtemi.h"])
+        complaints = [line for line in done.stderr.decode().splitlines() if "pragma once" not in line]
+        need(done.returncode == 0, f"{standard}: {complaints[:2]}")
+
+
+@test("header against archive: the same functions")
+def _(_):
+    header = (ROOT / "include" / "guvtemi.h").read_text(encoding="utf-8")
+    declared = set(re.findall(r"^uint64_t (guvtemi_\w+)\(", header, re.MULTILINE))
+    symbols = run(["nm", "-g", "--defined-only", ARCHIVE]).stdout.decode()
+    defined = set(re.findall(r" T (guvtemi_\w+)$", symbols, re.MULTILINE))
+    need(declared == defined == {"guvtemi_plan", "guvtemi_check"}, f"declared {sorted(declared)}, defined {sorted(defined)}")
+
+
+@test("C example: the program's answer to every example")
+def _(_):
+    console = native.build("examples/console.c", "console")
+    for sheet in example_sheets():
+        done = run([console, sheet])
+        need(done.stdout.decode() == printed_by_program(sheet.read_bytes()), f"{sheet.name}: {done.stdout[:40]!r}")
+        need(done.returncode == (0 if done.stdout.startswith(b"found") else 1), f"{sheet.name}: status {done.returncode}")
+
+
+@test("C example: no complaint of the address and behaviour sanitizers")
+def _(_):
+    console = native.build("examples/console.c", "console-sanitized", SANITIZE)
+    for sheet in example_sheets():
+        done = run([console, sheet])
+        need(done.returncode in (0, 1) and not done.stderr, f"{sheet.name}: {done.stderr.decode(errors='replace')[:400]}")
+
+
+@test("C example: no complaint of valgrind")
+def _(_):
+    console = native.build("examples/console.c", "console")
+    for sheet in example_sheets():
+        native.valgrind([console, sheet])
+
+
+@test("C example: a wrong argument gets a sentence")
+def _(_):
+    console = native.build("examples/console.c", "console")
+    for arguments in ([], ["no-such-file"], [str(EXAMPLES)], ["a", "b"]):
+        done = run([console, *arguments])
+        need(done.returncode == 2 and done.stderr, f"{arguments}: status {done.returncode}")
+    need(run([console, "--help"]).returncode == 0, "--help")
+
+
+@test("examples/build builds and plans the theatre")
+def _(_):
+    done = run(["sh", EXAMPLES / "build"])
+    need(done.stdout.decode() == printed_by_program((EXAMPLES / "theatre.sheet").read_bytes()), done.stderr.decode()[:300])
+
+
+# ---- The two functions against the reading of the scope
+
+def compare(calls, found):
+    """Holds answers to the reading; how often each number came back."""
+    seen = Counter()
+    for call, (returned, changed, cells) in zip(calls, found):
+        need(not changed, f"a call changed what it must leave: {call}")
+        if call.filters is None:
+            wanted, after = reading.console_check(call.sheet, call.cells), call.cells
+            seen[f"check {returned}"] += 1
+        else:
+            wanted, after = reading.console_plan(call.sheet, call.filters, call.choice, call.limit, call.classes, len(call.cells))
+            seen[returned >> 32] += 1
+        need(returned == wanted and cells == after,
+             f"returned {returned >> 32} and {returned % 2**32}, wanted {wanted >> 32} and {wanted % 2**32}, cells "
+             f"{'as wanted' if cells == after else 'differ'}: {call}")
+    return seen
+
+
+@test("both functions against the reading: random and damaged calls")
+def _(args):
+    rng = random.Random(args.seed)
+    driver = native.build("tests/driver.c", "driver", ["-O2"])
+    seen = Counter()
+    for _ in range(0, args.cases, 500):
+        calls = [samples.random_call(rng) for _ in range(500)]
+        seen += compare(calls, native.answers(driver, calls))
+    missing = [number for number in (1, 2, 3, 4, 5, 6, 7, 8, 9, 10, 12, 100, 101, 102, "check 0", "check 100", "check 10") if not seen[number]]
+    need(not missing, f"no call gave {missing}")
+    return f"{sum(seen.values()):,} calls, every number"
+
+
+@test("both functions against the reading: sheets at their limits")
+def _(_):
+    driver = native.build("tests/driver.c", "driver", ["-O2"])
+    calls = list(samples.limit_calls())
+    return f"{sum(compare(calls, native.answers(driver, calls)).values())} calls"
+
+
+@test("planning against the reading: sheets on which a slip shows, limits around the tree's size")
+def _(_):
+    driver = native.build("tests/driver.c", "driver", ["-O2"])
+    calls = list(samples.telling_calls())
+    return f"{sum(compare(calls, native.answers(driver, calls)).values()):,} calls"
+
+
+@test("both functions: no complaint of valgrind")
+def _(args):
+    rng = random.Random(args.seed + 1)
+    driver = native.build("tests/driver.c", "driver-valgrind", ["-g"])
+    calls = [samples.random_call(rng) for _ in range(150)] + list(samples.limit_calls())[::7]
+    return f"{sum(compare(calls, native.answers(driver, calls, native.valgrind)).values())} calls"
+
+
+# ---- The plain program of bench/
+
+@test("the plain C++ program against the reading")
+def _(args):
+    rng = random.Random(args.seed + 6)
+    plain = native.BUILD / "plain"
+    done = run(["g++", "-std=c++20", "-O2", "-Wall", "-Wextra", "-o", plain, ROOT / "bench" / "plain.cpp"])
+    need(done.returncode == 0 and not done.stderr, f"g++: {done.stderr.decode(errors='replace')[:400]}")
+    words = {reading.FOUND: "found", reading.NONE: "none", reading.STOPPED: "stopped"}
+    sheet_file, class_file = native.BUILD / "sheet", native.BUILD / "classes"
+    runs = 0
+    while runs < max(args.cases // 10, 50):
+        sheet = samples.random_sheet(rng)
+        data, classes = binary.encode(sheet), samples.classes_for(rng, sheet)
+        filters, choice, limit = rng.randrange(8), rng.randrange(3), rng.choice((1, 3, 10, 1_000_000))
+        number, nodes, plan = reading.planned(reading.Sheet(data), filters, choice, limit, classes)
+        if number == 12:
+            continue
+        sheet_file.write_bytes(data)
+        class_file.write_bytes(classes)
+        told = run([plain, sheet_file, str(filters), str(choice), str(limit), "0", class_file]).stdout.decode().split()
+        need(told == [words[number], str(nodes), *map(str, plan)], f"{told}, wanted {number}, {nodes}, {plan}: {sheet}")
+        runs += 1
+    return f"{runs} runs"

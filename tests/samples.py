@@ -1,0 +1,255 @@
+"""Inputs for the tests: random sheets, sheets at their limits, damaged sheets, and calls of the console library."""
+
+import random
+import struct
+from dataclasses import dataclass
+
+import reading
+from jobsheet.binary import EXACT, LISTED, SPACING, Rule, Sheet, encode
+
+EDGES = (0, 1, 2, 3, 4, 39, 40, 63, 64, 65, 255, 256, 511, 512, 513, 2016, 2017, 8192, 8193, 32767, 32768, 65535)
+WIDE_EDGES = EDGES + (65536, 9_999_999, 10_000_000, 2**31 - 1, 2**31, 2**32 - 1)
+
+
+def random_sheet(rng, most_links=6, most_frequencies=5):
+    """A small sheet with rules of every kind, close frequencies, and some pairs of links without a rule."""
+    top = rng.choice((9, 9, 14, 40))
+    links = [sorted(rng.sample(range(1, top), rng.randint(1, most_frequencies))) for _ in range(rng.randint(1, most_links))]
+    rules = []
+    for a in range(len(links)):
+        for b in range(a + 1, len(links)):
+            kind = rng.choice((0, SPACING, SPACING, EXACT, LISTED, LISTED))
+            if kind in (SPACING, EXACT):
+                rules.append(Rule(a, b, kind, rng.randint(1, 4)))
+            elif kind == LISTED:
+                pairs = [(p, q) for p in range(len(links[a])) for q in range(len(links[b])) if rng.random() < 0.65]
+                if pairs:
+                    rules.append(Rule(a, b, LISTED, 0, pairs))
+    return Sheet(links, rules)
+
+
+def wide_sheet(rng):
+    """A sheet of any size that is accepted, with frequencies from the whole range."""
+    links = []
+    left = 512
+    for _ in range(rng.randint(1, 64)):
+        count = min(rng.choice((1, 1, 2, 3, 8, 20)), left)
+        if count == 0:
+            break
+        low = rng.choice((1, 500_000, 9_999_000))
+        links.append(sorted(rng.sample(range(low, min(low + 1000, 10_000_000)), count)))
+        left -= count
+    rules, pairs_left = [], 8192
+    for a in range(len(links)):
+        for b in range(a + 1, len(links)):
+            kind = rng.choice((0, SPACING, SPACING, EXACT, LISTED))
+            if kind in (SPACING, EXACT):
+                rules.append(Rule(a, b, kind, rng.choice((1, 400, 9_999_999, rng.randint(1, 9_999_999)))))
+            elif kind == LISTED:
+                pairs = [(p, q) for p in range(len(links[a])) for q in range(len(links[b])) if rng.random() < 0.3][:pairs_left]
+                pairs_left -= len(pairs)
+                if pairs:
+                    rules.append(Rule(a, b, LISTED, 0, pairs))
+    return Sheet(links, rules)
+
+
+def limit_sheets():
+    """Sheets at each limit, and one past it: (name, bytes)."""
+    every = [(a, b) for a in range(64) for b in range(a + 1, 64)]
+    eights = [[500_000 + 400 * (8 * a + i) for i in range(8)] for a in range(64)]
+    half = [list(range(1, 257)), list(range(1000, 1256))]
+    pairs = [(p, q) for p in range(256) for q in range(256)]
+    return [
+        ("64 links, 512 frequencies, 2,016 rules", encode(Sheet(eights, [Rule(a, b, SPACING, 400) for a, b in every]))),
+        ("2,016 rules of kind 3", encode(Sheet(eights, [Rule(a, b, LISTED, 0, [(p, p) for p in range(4)]) for a, b in every]))),
+        ("8,192 pairs in one rule", encode(Sheet(half, [Rule(0, 1, LISTED, 0, pairs[::8])]))),
+        ("8,193 pairs", encode(Sheet(half, [Rule(0, 1, LISTED, 0, pairs[:8193])]))),
+        ("512 frequencies of one link", encode(Sheet([list(range(1, 513))], []))),
+        ("513 frequencies", encode(Sheet([list(range(1, 514))], []))),
+        ("64 links of one frequency", encode(Sheet([[9_999_999]] * 64, []))),
+        ("65 links", encode(Sheet([[1]] * 65, []))),
+        ("2,017 rules", encode(Sheet(eights, [Rule(a, b, SPACING, 1) for a, b in every] + [Rule(0, 1, SPACING, 1)]))),
+        ("the whole range", encode(Sheet([[1, 9_999_999], [1, 9_999_999]], [Rule(0, 1, SPACING, 9_999_998)]))),
+        ("one past the range", encode(Sheet([[1, 9_999_999], [1, 9_999_999]], [Rule(0, 1, SPACING, 9_999_999)]))),
+        ("counts that sum to 65,536 and more", _with_counts([65535, 1, 2])),
+        ("no bytes", b""), ("40 zeros", bytes(40)), ("40 ones", b"\xff" * 40), ("only a header", struct.pack("<10I", 1, 1, 1, 0, 0, 40, 44, 48, 48, 48)),
+    ]
+
+
+def _with_counts(counts):
+    """A sheet whose link rows would be right if sums were kept in 16 bits."""
+    data = bytearray(encode(Sheet([[1], [1], [1, 2]], [])))
+    first = 0
+    for link, count in enumerate(counts):
+        struct.pack_into("<HH", data, 40 + 4 * link, first % 65536, count)
+        first += count
+    return bytes(data)
+
+
+def damaged(rng, data):
+    """Bytes with one or a few faults, aimed at each section in turn."""
+    data = bytearray(data)
+    for _ in range(rng.choice((1, 1, 1, 2, 4))):
+        if len(data) < 44:
+            break
+        rng.choice((_byte, _field, _field, _row, _row, _row, _cut))(rng, data)
+    return bytes(data)
+
+
+def _byte(rng, data):
+    data[rng.randrange(len(data))] = rng.choice((0, 1, 2, 255, rng.randrange(256)))
+
+
+def _field(rng, data):
+    at = 4 * rng.randrange(10)
+    old, = struct.unpack_from("<I", data, at)
+    struct.pack_into("<I", data, at, rng.choice((rng.choice(WIDE_EDGES), (old + rng.choice((-4, -1, 1, 4))) % 2**32)))
+
+
+def _row(rng, data):
+    """A number of a link row, a frequency, a rule row or a pair row, changed or exchanged with the next one."""
+    k, n, q, t = (min(count, limit) for count, limit in zip(struct.unpack_from("<4I", data, 4), (64, 512, 2016, 8192)))
+    starts = [(40, 4, k, "HH"), (40 + 4 * k, 4, n, "I"), (40 + 4 * k + 4 * n, 12, q, "HHHHI"), (40 + 4 * k + 4 * n + 12 * q, 4, t, "HH")]
+    start, size, count, layout = rng.choice([section for section in starts if section[2]] or [(40, 4, 1, "HH")])
+    at = start + size * rng.randrange(count)
+    if at + 2 * size <= len(data) and rng.random() < 0.25:
+        data[at:at + size], data[at + size:at + 2 * size] = data[at + size:at + 2 * size], data[at:at + size]
+        return
+    if at + size > len(data):
+        return
+    row = list(struct.unpack_from("<" + layout, data, at))
+    field = rng.randrange(len(row))
+    wide = layout[field] == "I"
+    row[field] = rng.choice((rng.choice(WIDE_EDGES if wide else EDGES), (row[field] + rng.choice((-1, 1, 2))) % (2**32 if wide else 2**16)))
+    struct.pack_into("<" + layout, data, at, *row)
+
+
+def _cut(rng, data):
+    if rng.random() < 0.5:
+        del data[rng.randrange(len(data)):]
+    else:
+        data += bytes(rng.randrange(256) for _ in range(rng.randint(1, 8)))
+
+
+@dataclass
+class Call:
+    """One call of the console library: planning where `filters` is a number, checking where it is None."""
+    sheet: bytes
+    filters: int = None
+    choice: int = 0
+    limit: int = 1
+    classes: bytes = b""
+    cells: bytes = b""
+
+
+def classes_for(rng, sheet):
+    """A class list for choice 2: the layers renamed, or independent sets at random; now and then one that is no partition."""
+    k = len(sheet.links)
+    names = rng.sample(range(k), k)
+    listed = [names[link] for link, frequencies in enumerate(sheet.links) for _ in frequencies]
+    if rng.random() < 0.6 and len(listed) < 60:
+        row = reading.Sheet(encode(sheet)).graph()
+        for v in rng.sample(range(len(listed)), len(listed)):
+            fitting = [c for c in range(k) if not any(row[v] >> u & 1 and listed[u] == c for u in range(len(listed)))]
+            listed[v] = rng.choice(fitting)
+    elif rng.random() < 0.1:
+        listed[rng.randrange(len(listed))] = rng.randrange(k)
+    if rng.random() < 0.05:
+        listed[rng.randrange(len(listed))] = rng.choice((k, 255))
+    if rng.random() < 0.05:
+        listed = listed[:-1] if rng.random() < 0.5 else listed + [0]
+    return bytes(listed)
+
+
+def random_call(rng):
+    """A call on a small sheet, a wide one or a damaged one, with settings in and out of range."""
+    sheet = wide_sheet(rng) if rng.random() < 0.01 else random_sheet(rng)
+    data = encode(sheet)
+    if rng.random() < 0.25:
+        data = damaged(rng, data)
+    k = len(sheet.links)
+    cells_len = rng.choice((4 * k,) * 5 + (4 * k + 1, 4 * k + 3, 4 * k + 64, 256, 1000, 4 * k - 1, 4 * k - 4, 0, 3))
+    if rng.random() < 0.35:
+        return _check_call(rng, sheet, data, cells_len)
+    cells = bytes(rng.randrange(256) for _ in range(cells_len))
+    filters = rng.randrange(8) if rng.random() < 0.97 else rng.choice((8, 9, 255, 2**31, 2**32 - 1))
+    choice = rng.randrange(3) if rng.random() < 0.97 else rng.choice((3, 4, 255, 2**32 - 1))
+    limit = rng.choice((1, 2, 3, 5, 8, 20, 1000, 1000, 100_000, 1_000_000_000))
+    if rng.random() < 0.03:
+        limit = rng.choice((0, 1_000_000_001, 2**32 - 1))
+    classes = classes_for(rng, sheet) if choice == 2 or rng.random() < 0.2 else b""
+    if frequencies_of(sheet) > 60:
+        limit = min(limit, 200) if limit else limit
+    return Call(data, filters, choice, limit, classes, cells)
+
+
+def frequencies_of(sheet):
+    return sum(len(listed) for listed in sheet.links)
+
+
+def _check_call(rng, sheet, data, cells_len):
+    """Cells with a frequency of each list, mostly one that keeps the rules with those before it, now and then with a wrong number."""
+    chosen = []
+    for link, listed in enumerate(sheet.links):
+        fitting = [khz for khz in listed if all(_allows(sheet, rule, chosen, khz) for rule in sheet.rules if rule.b == link)]
+        chosen.append(rng.choice(fitting if fitting and rng.random() < 0.95 else listed))
+    if rng.random() < 0.1:
+        chosen[rng.randrange(len(chosen))] = rng.choice((0, 1, 2**32 - 1, rng.randrange(12)))
+    cells = struct.pack(f"<{len(chosen)}I", *chosen) + bytes(rng.randrange(256) for _ in range(1000))
+    return Call(data, cells=cells[:cells_len])
+
+
+def _allows(sheet, rule, chosen, khz):
+    other = chosen[rule.a]
+    if rule.kind == LISTED:
+        return (sheet.links[rule.a].index(other), sheet.links[rule.b].index(khz)) in rule.pairs if other in sheet.links[rule.a] else False
+    return abs(other - khz) >= rule.value if rule.kind == SPACING else abs(other - khz) == rule.value
+
+
+def limit_calls():
+    """Calls on the sheets at their limits, under every filter number and choice, with few nodes."""
+    rng = random.Random(8)
+    for _, data in limit_sheets():
+        yield Call(data, cells=bytes(256))
+        for filters, choice, limit in ((0, 0, 200), (7, 0, 100), (6, 1, 70), (1, 1, 3), (4, 2, 66), (8, 0, 1), (0, 3, 1), (0, 0, 0), (0, 0, 10**9 + 1)):
+            cells = bytes(rng.randrange(256) for _ in range(rng.choice((256, 259, 255, 4))))
+            yield Call(data, filters, choice, limit, bytes(512), cells)
+
+
+def telling_sheets():
+    """Small sheets on which a slip shows: the scope's sheets with known results and some more."""
+    listed = lambda rules: [Rule(a, b, LISTED, 0, pairs) for a, b, pairs in rules]  # noqa: E731
+    return [
+        Sheet([[500_000, 500_400], [500_000, 500_300]], [Rule(0, 1, SPACING, 400)]),
+        Sheet([[500_000], [500_100]], [Rule(0, 1, SPACING, 400)]),
+        Sheet([[500_000], [500_100]], [Rule(0, 1, SPACING, 100)]),
+        Sheet([[500_000], [500_000]], []),
+        Sheet([[500_000]], []),
+        # Document 000, Example 1 and Example 3.
+        Sheet([[1, 3, 5], [1, 2, 3], [5, 6], [1, 2, 3]],
+              listed([(0, 1, [(0, 0), (0, 1), (1, 2), (2, 2)]), (0, 2, [(0, 0), (1, 1)]), (0, 3, [(0, 0)]),
+                      (1, 2, [(0, 0), (1, 0), (1, 1), (2, 1)]), (1, 3, [(0, 0)]), (2, 3, [(0, 0), (1, 1), (1, 2)])])),
+        Sheet([[1, 2], [1, 2, 3], [1]], listed([(0, 1, [(0, 0), (1, 0), (1, 1), (1, 2)]), (0, 2, [(0, 0)]), (1, 2, [(1, 0)])])),
+        # An exact distance downwards and upwards.
+        Sheet([[4], [1, 7]], [Rule(0, 1, EXACT, 3)]), Sheet([[4], [7]], [Rule(0, 1, EXACT, 3)]), Sheet([[4], [1]], [Rule(0, 1, EXACT, 3)]),
+        # A trial that succeeds and whose strikes must not stay.
+        Sheet([[1, 2, 3], [1, 2]], listed([(0, 1, [(2, 0), (2, 1)])])),
+        # More than k greedy classes: the layers are used.
+        Sheet([[1, 2, 3]] * 3, listed([(0, 1, [(1, 0), (1, 2), (2, 1), (2, 2)]), (0, 2, [(0, 0), (0, 1), (1, 1), (2, 0), (2, 1), (2, 2)])])),
+        # The pre-filter empties a greedy class, and no layer.
+        Sheet([[1, 2, 4], [2, 5], [2]], listed([(0, 1, [(0, 0), (1, 0), (1, 1)])]) + [Rule(0, 2, SPACING, 1), Rule(1, 2, SPACING, 1)]),
+    ]
+
+
+def telling_calls():
+    """Each telling sheet under every filter number and choice, with limits around the size of its tree."""
+    rng = random.Random(9)
+    for sheet in telling_sheets():
+        data = encode(sheet)
+        for filters in range(8):
+            for choice in range(3):
+                classes = classes_for(rng, sheet) if choice == 2 else b""
+                cells = bytes([7]) * (4 * len(sheet.links) + 3)
+                size = reading.console_plan(data, filters, choice, 1_000_000_000, classes, len(cells))[0] % 2**32
+                for limit in sorted({1, max(size - 1, 1), max(size, 1), size + 1, 1_000_000}):
+                    yield Call(data, filters, choice, limit, classes, cells)

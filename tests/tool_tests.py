@@ -1,0 +1,195 @@
+"""Tests of the tools that people use: text to sheet and back, refusals explained, tables, pictures, wrong inputs."""
+
+import random
+import re
+import tempfile
+import xml.dom.minidom
+from collections import Counter
+from pathlib import Path
+
+import native
+import reading
+import samples
+from harness import EXAMPLES, SHEET, example_answers, example_sheets, need, printed_by_program, test
+from jobsheet import binary, picture, show, text
+from jobsheet.answer import Answer, width
+from native import ROOT, run
+
+
+@test("examples/README.md says what the planner answers")
+def _(_):
+    rows = example_answers()
+    for name, answer, _ in rows:
+        data = (EXAMPLES / name).read_bytes()
+        need(printed_by_program(data).splitlines()[0] == answer, f"{name}: the program says {printed_by_program(data)[:30]!r}")
+        need(reading.printed(data) == printed_by_program(data), f"{name}: the reading differs")
+    listed = {name for name, _, _ in rows}
+    there = {str(path.relative_to(EXAMPLES)) for path in example_sheets()}
+    need(listed == there, f"not in the table or not there: {sorted(listed ^ there)}")
+
+
+@test("tools/sheet on every example")
+def _(_):
+    with tempfile.TemporaryDirectory() as folder:
+        out = Path(folder) / "out"
+        for name, answer, row in example_answers():
+            sheet, source = EXAMPLES / name, (EXAMPLES / name).with_suffix(".txt")
+            refused = answer.startswith("refused")
+            why = run([SHEET, "why", sheet])
+            need(why.stdout.decode().startswith(answer if refused else "accepted"), f"why {name}: {why.stdout[:60]!r}")
+            if source.exists():
+                made = run([SHEET, "make", source, "-o", out])
+                need((made.returncode == 0) != refused, f"make {source.name}: status {made.returncode}")
+                complaint = re.search(r"line \d+: expected .*", made.stderr.decode())
+                need(complaint and complaint.group() in row if refused else out.read_bytes() == sheet.read_bytes(), f"make {source.name}")
+            if refused:
+                need(run([SHEET, "plan", sheet]).returncode == 1, f"plan {name}")
+                continue
+            shown = run([SHEET, "show", sheet])
+            made = run([SHEET, "make", "-"], input=shown.stdout)
+            need(made.stdout == sheet.read_bytes(), f"make of show {name}")
+            for job in (sheet, source):
+                planned = run([SHEET, "plan", job])
+                need((planned.returncode == 0) == answer.startswith("found"), f"plan {job.name}: status {planned.returncode}")
+                drawn = run([SHEET, "picture", job, "-o", out])
+                need(drawn.returncode == planned.returncode, f"picture {job.name}: {drawn.stderr.decode()[:200]}")
+                xml.dom.minidom.parse(str(out))
+
+
+@test("tools/sheet plan prints the program's plan with names")
+def _(_):
+    table = run([SHEET, "plan", EXAMPLES / "theatre.txt"]).stdout.decode()
+    job = text.parse((EXAMPLES / "theatre.txt").read_text(encoding="utf-8"))
+    plan = printed_by_program((EXAMPLES / "theatre.sheet").read_bytes()).splitlines()[1:]
+    for link, line in enumerate(plan):
+        khz = int(line.split()[1])
+        row = rf"^ *{link}  {re.escape(job.names[link])} +{khz // 1000}\.{khz % 1000:03}  .*(kHz to|no rule)"
+        need(re.search(row, table, re.MULTILINE), f"no row for link {link} in the table")
+
+
+@test("docs/TEXT.md and examples/theatre.svg show the theatre as it is")
+def _(_):
+    page = (ROOT / "docs" / "TEXT.md").read_text(encoding="utf-8")
+    theatre = EXAMPLES / "theatre.txt"
+    need(theatre.read_text(encoding="utf-8") in page, "docs/TEXT.md does not hold examples/theatre.txt")
+    need(run([SHEET, "plan", theatre]).stdout.decode() in page, "docs/TEXT.md does not hold its plan")
+    drawn = run([SHEET, "picture", theatre, "-o", "-"]).stdout
+    need(drawn == (EXAMPLES / "theatre.svg").read_bytes(), "tools/sheet picture draws another examples/theatre.svg")
+
+
+@test("every command has --help")
+def _(_):
+    commands = [[SHEET, "--help"], [ROOT / "bench" / "run", "--help"], [ROOT / "tests" / "outside", "--help"], ["sh", EXAMPLES / "build", "--help"]]
+    commands += [[SHEET, name, "--help"] for name in ("make", "show", "why", "plan", "picture")]
+    for command in commands:
+        done = run(command)
+        need(done.returncode == 0 and len(done.stdout) > 60, f"{command}: status {done.returncode}")
+
+
+@test("wrong and missing inputs get a sentence, never a traceback")
+def _(_):
+    with tempfile.TemporaryDirectory() as folder:
+        made = {"empty": b"", "noise": bytes(range(256)), "latin": "job Café\nlink A 500.1\n".encode("latin-1"), "words": b"hello there\n",
+                "short": b"\x01\0\0\0", "text": b"job x\nlink A 500.1\n"}
+        files = {name: Path(folder) / name for name in made}
+        for name, data in made.items():
+            files[name].write_bytes(data)
+        (Path(folder) / "deep").mkdir()
+        inputs = [*files.values(), Path(folder) / "missing", Path(folder), Path(folder) / "x\0y"]
+        cases = [[name, path] for name in ("make", "show", "why", "plan", "picture") for path in inputs if "\0" not in str(path)]
+        cases += [[], ["unknown"], ["make"], ["make", files["text"], "-o", Path(folder) / "deep"], ["picture", files["text"], "-o", Path(folder) / "no" / "where"]]
+        for case in cases:
+            done = run([SHEET, *case], cwd=folder)
+            said = (done.stdout + done.stderr).decode(errors="replace")
+            need("Traceback" not in said and said.strip(), f"{case}: {said[-300:]}")
+            good = case[:1] in (["make"], ["plan"], ["picture"]) and case[1:] == [files["text"]]
+            need((done.returncode == 0) == good, f"{case}: status {done.returncode}")
+
+
+@test("make and show are inverse on random sheets")
+def _(args):
+    rng = random.Random(args.seed + 2)
+    for number in range(args.cases):
+        sheet = samples.wide_sheet(rng) if number % 40 == 0 else samples.random_sheet(rng, 9, 6)
+        data = binary.encode(sheet)
+        need(reading.refusal(data) == 0, "a sheet that the reading refuses")
+        need(binary.encode(binary.decode(data)) == data, "encode and decode differ")
+        shown = show.show(binary.decode(data), "a sheet")
+        need(binary.encode(text.parse(shown).sheet) == data, f"make of show differs:\n{shown[:400]}")
+        need(show.show(text.parse(shown).sheet, "a sheet") == shown, "show of make differs")
+    return f"{args.cases:,} sheets"
+
+
+@test("why gives the planner's number for damaged sheets")
+def _(args):
+    rng = random.Random(args.seed + 3)
+    driver = native.build("tests/driver.c", "driver", ["-O2"])
+    seen, inputs = Counter(), [data for _, data in samples.limit_sheets()]
+    while len(inputs) < args.cases:
+        sheet = samples.wide_sheet(rng) if rng.random() < 0.02 else samples.random_sheet(rng, 9, 6)
+        inputs.append(samples.damaged(rng, binary.encode(sheet)))
+    # The check needs no search: with no cells it answers the refusal, or 10.
+    for data, (returned, _, _) in zip(inputs, native.answers(driver, [samples.Call(data) for data in inputs])):
+        fault = binary.fault_of(data)
+        need((fault.number if fault else 10) == returned, f"why says {fault}, the planner {returned}, for {data.hex()[:400]}")
+        if fault:
+            need(fault.place and fault.there and fault.allowed and 0 <= fault.offset <= max(len(data), 40), f"{fault}")
+        seen[returned] += 1
+    for data in inputs[:60]:
+        said, told = run([SHEET, "why", "-"], input=data).stdout.decode(), printed_by_program(data)
+        need(told.startswith("refused") == said.startswith("refused"), f"why says {said[:30]!r}, the program {told[:30]!r}")
+        need(not told.startswith("refused") or said.startswith(told.strip() + ":"), f"why says {said[:30]!r}, the program {told[:30]!r}")
+    need(all(seen[number] for number in range(1, 9)), f"not every number arose: {dict(seen)}")
+    return f"{len(inputs):,} sheets; " + ", ".join(f"{number}: {seen[number]}" for number in range(1, 9))
+
+
+@test("damaged texts are read or get a line number")
+def _(args):
+    rng = random.Random(args.seed + 4)
+    whole = (EXAMPLES / "theatre.txt").read_text(encoding="utf-8")
+    read = 0
+    for _ in range(args.cases):
+        lines = whole.splitlines()
+        for _ in range(rng.choice((1, 1, 3))):
+            at = rng.randrange(len(lines))
+            words = lines[at].split(" ") or [""]
+            words[rng.randrange(len(words))] = rng.choice(("", '"', "#", "all", "link", "0", "1e9", "500,1", "500.4MHz", "kHz", "Romeo", "-1", "9" * 30, "ä/ö", "1/2"))
+            lines[at] = " ".join(words)
+        try:
+            data = binary.encode(text.parse("\n".join(lines)).sheet)
+            need(reading.refusal(data) == 0, "a text gave a sheet that is refused")
+            read += 1
+        except text.TextError as error:
+            need(error.faults and all(line >= 1 and sentence.startswith("expected") for line, sentence in error.faults), f"{error}")
+    return f"{read:,} of {args.cases:,} read"
+
+
+@test("pictures are well-formed and their labels do not overlap")
+def _(args):
+    rng = random.Random(args.seed + 5)
+    for _ in range(max(args.cases // 30, 20)):
+        sheet = samples.wide_sheet(rng) if rng.random() < 0.5 else samples.random_sheet(rng, 20, 6)
+        names = [f'A & <b> "{link}"' if rng.random() < 0.1 else f"link{link}" * rng.choice((1, 1, 6)) for link in range(len(sheet.links))]
+        plan = [rng.choice(listed) for listed in sheet.links]
+        answer = Answer("found", 1, plan) if rng.random() < 0.8 else Answer("none", 1, [])
+        labels_apart(picture.svg(text.Job("job & <name>", names, sheet, []), answer))
+
+
+def labels_apart(svg):
+    """Holds the text boxes of a picture apart, by the width of a fixed-width font."""
+    boxes = []
+    for node in xml.dom.minidom.parseString(svg).getElementsByTagName("text"):
+        size = 17 if node.getAttribute("class") == "title" else 11
+        long, high = 0.602 * size * width(node.firstChild.data), 0.7 * size
+        turned = re.match(r"translate\(([-\d.]+) ([-\d.]+)\)", node.getAttribute("transform"))
+        if turned:
+            x, y = map(float, turned.groups())
+            boxes.append((x - high, y - long, x, y))
+        else:
+            x, y = float(node.getAttribute("x")), float(node.getAttribute("y"))
+            x -= {"start": 0, "middle": long / 2, "end": long}[node.getAttribute("text-anchor")]
+            boxes.append((x, y - high, x + long, y))
+    for index, (left, top, right, bottom) in enumerate(boxes):
+        need(left >= 0 and right <= 1200, f"a label leaves the picture: {left:.0f} to {right:.0f}")
+        for left2, top2, right2, bottom2 in boxes[:index]:
+            need(right <= left2 or right2 <= left or bottom <= top2 or bottom2 <= top, "two labels overlap")

@@ -1,0 +1,154 @@
+"""The planner's answer to a sheet: running the proved program, and its plan as a table."""
+
+import subprocess
+import sys
+import unicodedata
+from dataclasses import dataclass
+from pathlib import Path
+
+from .binary import EXACT, SPACING, encode
+from .text import mhz
+
+ROOT = Path(__file__).resolve().parents[2]
+PROGRAM = ROOT / "target" / "bin" / "plan"
+PATIENCE = 3  # seconds before a word that planning goes on
+
+
+class NoAnswer(Exception):
+    """The planner could not be asked, or what it said cannot be used; the text says what to do."""
+
+
+@dataclass
+class Answer:
+    """verdict is found, none, stopped or refused; number its nodes, or the refusal; khz the plan in link order."""
+    verdict: str
+    number: int
+    khz: list
+
+
+@dataclass
+class Spacing:
+    """Two links that a rule names, how far apart their frequencies are, and that rule."""
+    apart: int
+    rule: object
+
+    def spare(self):
+        return self.apart - self.rule.value if self.rule.kind == SPACING else 0
+
+    def asked(self):
+        if self.rule.kind == SPACING:
+            return f"at least {self.rule.value} kHz"
+        return f"just {self.rule.value} kHz" if self.rule.kind == EXACT else "a listed pair"
+
+
+def ask(data):
+    """What the proved program answers to the bytes of a sheet."""
+    if not PROGRAM.exists():
+        raise NoAnswer(f"the planner is not built. Build it with 'rt check plan' in {ROOT} (this needs the Rattle kit); "
+                       "'./guvtemi FILE' there does the same and plans FILE.")
+    try:
+        process = subprocess.Popen([str(PROGRAM)], stdin=subprocess.PIPE, stdout=subprocess.PIPE, stderr=subprocess.DEVNULL)
+    except OSError as error:
+        raise NoAnswer(f"the planner {PROGRAM} does not start ({error.strerror}). Build it again with 'rt check plan'.") from None
+    with process:
+        try:
+            printed, _ = process.communicate(data, timeout=PATIENCE)
+        except subprocess.TimeoutExpired:
+            print("planning, up to 1,000,000 nodes: a tight job can take minutes (Ctrl-C gives up) ..", file=sys.stderr, flush=True)
+            printed, _ = process.communicate()
+    answer = _read(printed.decode("ascii", "replace"))
+    if answer is None:
+        ended = f"ended with status {process.returncode}" if process.returncode else "ended"
+        raise NoAnswer(f"the planner {PROGRAM} {ended} and printed {printed[:60]!r}, which is no answer. "
+                       "Build it again with 'rt check plan'.")
+    return answer
+
+
+def _read(printed):
+    lines = printed.splitlines()
+    words = lines[0].split(" ") if lines else []
+    if len(words) != 2 or words[0] not in ("found", "none", "stopped", "refused") or not words[1].isdigit():
+        return None
+    khz = []
+    for link, line in enumerate(lines[1:]):
+        cells = line.split(" ")
+        if len(cells) != 2 or cells[0] != str(link) or not cells[1].isdigit():
+            return None
+        khz.append(int(cells[1]))
+    if (words[0] == "found") != bool(khz):
+        return None
+    return Answer(words[0], int(words[1]), khz)
+
+
+def plan(sheet):
+    """The program's answer to an accepted sheet. A plan is held to the rules once more before anybody tunes by it."""
+    answer = ask(encode(sheet))
+    if answer.verdict == "refused":
+        raise NoAnswer(f"the planner refuses this sheet with number {answer.number}, and this command accepts it: "
+                       "one of the two is wrong. Please report it with the sheet.")
+    if answer.verdict == "found" and not keeps_rules(sheet, answer.khz):
+        raise NoAnswer("the planner's plan does not keep the rules of this sheet: do not tune by it. "
+                       "Build the planner again with 'rt check plan'.")
+    return answer
+
+
+def keeps_rules(sheet, khz):
+    """Whether each frequency is in its link's list and every rule allows its two."""
+    if len(khz) != len(sheet.links) or any(f not in listed for f, listed in zip(khz, sheet.links)):
+        return False
+    for rule in sheet.rules:
+        f, g = khz[rule.a], khz[rule.b]
+        if rule.kind == SPACING:
+            allowed = abs(f - g) >= rule.value
+        elif rule.kind == EXACT:
+            allowed = abs(f - g) == rule.value
+        else:
+            allowed = (sheet.links[rule.a].index(f), sheet.links[rule.b].index(g)) in rule.pairs
+        if not allowed:
+            return False
+    return True
+
+
+def tightest(sheet, khz, link=None):
+    """The least spacing of two links that a rule names (of this link, where one is given), or None without such a rule."""
+    found = [Spacing(abs(khz[rule.a] - khz[rule.b]), rule) for rule in sheet.rules if link in (None, rule.a, rule.b)]
+    return min(found, key=lambda spacing: (spacing.apart, spacing.spare()), default=None)
+
+
+def said(answer):
+    """The verdict in a sentence."""
+    nodes = f"{answer.number:,} node{'' if answer.number == 1 else 's'}"
+    if answer.verdict == "found":
+        return f"plan found in {nodes}"
+    if answer.verdict == "none":
+        return f"no plan exists ({nodes}): no choice of one frequency per link keeps every rule"
+    return f"stopped at {nodes} without an answer: there may be a plan or none"
+
+
+def advice(answer):
+    """What to do without a plan."""
+    parts = ", or plan parts of the job one by one" if answer.verdict == "stopped" else ""
+    return f"Give a link more frequencies, loosen a rule{parts or ', or free two links that may share a carrier'}."
+
+
+def width(text):
+    """Columns that a text takes in a terminal."""
+    return sum(0 if unicodedata.combining(c) else 2 if unicodedata.east_asian_width(c) in "WF" else 1 for c in text)
+
+
+def table(sheet, names, answer):
+    """The plan line by line: link number, name, MHz, and the tightest spacing to a neighbour that a rule names."""
+    wide = max([width(name) for name in names] + [4])
+    rows = [f"link  name{' ' * (wide - 4)}        MHz  tightest spacing"]
+    for link, (name, khz) in enumerate(zip(names, answer.khz)):
+        near = tightest(sheet, answer.khz, link)
+        if near is None:
+            told = "no rule names it"
+        else:
+            other = near.rule.b if near.rule.a == link else near.rule.a
+            told = f"{near.apart} kHz to {names[other]} ({near.asked()})"
+        rows.append(f"{link:4}  {name}{' ' * (wide - width(name))}  {mhz(khz):>9}  {told}")
+    worst = tightest(sheet, answer.khz)
+    if worst:
+        rows += ["", f"tightest pair: {names[worst.rule.a]} and {names[worst.rule.b]}, {worst.apart} kHz apart ({worst.asked()})"]
+    return "\n".join(rows)

@@ -1,0 +1,154 @@
+"""The band as an SVG: carriers on a frequency axis, and below them a lane per link with its candidate frequencies."""
+
+from xml.sax.saxutils import escape
+
+from .answer import said, tightest, width
+from .axis import Axis, spread
+from .text import mhz
+
+WIDE = 1200            # of the picture, in pixels
+RIGHT = 36             # margin
+CHARACTER = 6.7        # of the fixed-width font at size 11
+LABEL_STEP = 13        # between two upright labels
+LONGEST_NAME = 20      # columns; a longer name is cut, its tooltip has it whole
+LEADER, STEM = 34, 70  # heights: from a label to its carrier, and of a carrier
+
+STYLE = """
+text { font-family: 'DejaVu Sans Mono', Menlo, Consolas, monospace; font-size: 11px; fill: #222 }
+.title { font-size: 17px; font-weight: bold }
+.quiet { fill: #666 }
+.axis { stroke: #444; stroke-width: 1.2; fill: none }
+.grid { stroke: #eef0f2 }
+.lane { stroke: #e3e7eb }
+.candidate { stroke: #aab7c4; stroke-width: 1.4 }
+.leader { stroke: #9db4ca; fill: none }
+.carrier { stroke: #1f4e79; stroke-width: 2 }
+.dot { fill: #1f4e79 }
+.worst-leader { stroke: #dd8f88; fill: none }
+.worst { stroke: #c0281c; stroke-width: 2; fill: none }
+.worst-dot { fill: #c0281c }
+.worst-text { fill: #c0281c }
+"""
+
+
+def svg(job, answer):
+    """The picture of a job and the planner's answer; without a plan it shows the candidates alone."""
+    return _Picture(job, answer).text()
+
+
+class _Picture:
+    def __init__(self, job, answer):
+        self.job, self.answer, self.sheet = job, answer, job.sheet
+        self.plan = answer.khz if answer.verdict == "found" else []
+        self.names = [_cut(name) for name in job.names]
+        worst = tightest(self.sheet, self.plan) if self.plan else None
+        self.worst = worst
+        self.worst_links = (worst.rule.a, worst.rule.b) if worst else ()
+        left = 24 + CHARACTER * max(10, 4 + max(width(name) for name in self.names))
+        self.axis = Axis([khz for listed in self.sheet.links for khz in listed], left, WIDE - RIGHT)
+        self.shapes = []
+
+    def text(self):
+        y = self._heading(30)
+        if self.plan:
+            y = self._labels(y)
+        y = self._scale(y)
+        if self.worst:
+            y = self._bracket(y)
+        height = self._lanes(y)
+        return "\n".join([
+            f'<svg xmlns="http://www.w3.org/2000/svg" width="{WIDE}" height="{height:.0f}" viewBox="0 0 {WIDE} {height:.0f}">',
+            f"<title>{escape(self.job.name)}</title>", f"<style>{STYLE}</style>",
+            f'<rect width="{WIDE}" height="{height:.0f}" fill="white"/>', *self.shapes, "</svg>", ""])
+
+    def _write(self, x, y, words, kind="", anchor="start", more=""):
+        self.shapes.append(f'<text x="{x:.1f}" y="{y:.1f}" class="{kind}" text-anchor="{anchor}"{more}>{escape(words)}</text>')
+
+    def _line(self, points, kind, told=""):
+        joined = " ".join(f"{x:.1f},{y:.1f}" for x, y in points)
+        inner = f"<title>{escape(told)}</title>" if told else ""
+        self.shapes.append(f'<polyline points="{joined}" class="{kind}">{inner}</polyline>')
+
+    def _heading(self, y):
+        most = int((WIDE - 60) / CHARACTER)
+        self._write(24, y, _cut(self.job.name, most * 11 // 17), "title")
+        self._write(24, y + 21, _cut(f"{self.sheet.counted()}: {said(self.answer)}", most))
+        if self.worst:
+            a, b = (self.job.names[link] for link in self.worst_links)
+            told = f"tightest pair: {a} and {b}, {self.worst.apart} kHz apart ({self.worst.asked()})"
+            self._write(24, y + 39, _cut(told, most), "worst-text")
+        return y + 56
+
+    def _labels(self, y):
+        """Upright labels side by side, each with a leader to its carrier on the axis."""
+        order = sorted(range(len(self.plan)), key=lambda link: (self.plan[link], link))
+        words = {link: f"{self.names[link]} {mhz(self.plan[link])}" for link in order}
+        bottom = y + CHARACTER * max(width(word) for word in words.values())
+        places = spread([self.axis.x(self.plan[link]) for link in order], LABEL_STEP, self.axis.left + 6, self.axis.right)
+        # The worst pair comes last, so that nothing is drawn over it.
+        for link, place in sorted(zip(order, places), key=lambda item: item[0] in self.worst_links):
+            x = self.axis.x(self.plan[link])
+            worst = link in self.worst_links
+            self._write(0, 0, words[link], "worst-text" if worst else "",
+                        more=f' transform="translate({place + 4:.1f} {bottom:.1f}) rotate(-90)"')
+            self._line([(place, bottom + 4), (x, bottom + LEADER)], "worst-leader" if worst else "leader")
+            self._line([(x, bottom + LEADER), (x, bottom + LEADER + STEM)], "worst" if worst else "carrier",
+                       f"link {link}, {self.job.names[link]}, {mhz(self.plan[link])} MHz")
+        return bottom + LEADER + STEM
+
+    def _scale(self, y):
+        for left, right in self.axis.runs():
+            self._line([(left, y), (right, y)], "axis")
+        for x in self.axis.breaks():
+            self._line([(x - 5, y + 5), (x - 1, y - 5)], "axis")
+            self._line([(x + 1, y + 5), (x + 5, y - 5)], "axis")
+        for x, label in self.axis.ticks():
+            self._line([(x, y), (x, y + 5)], "axis")
+            self._write(x, y + 18, label, anchor="middle")
+        self._write(16, y + 18, "MHz", "quiet")
+        return y + 34
+
+    def _bracket(self, y):
+        """The worst pair below the axis, with its distance."""
+        ends = sorted(self.axis.x(self.plan[link]) for link in self.worst_links)
+        words = f"{self.worst.apart} kHz"
+        half = CHARACTER * len(words) / 2
+        middle = min(max(sum(ends) / 2, self.axis.left + half), self.axis.right - half)
+        self._line([(ends[0], y - 8), (ends[0], y), (ends[1], y), (ends[1], y - 8)], "worst")
+        self._write(middle, y + 14, words, "worst-text", "middle")
+        return y + 26
+
+    def _lanes(self, y):
+        count = len(self.sheet.links)
+        step = 17 if count <= 32 else 14
+        bottom = y + step * count
+        for x, _ in self.axis.ticks():
+            self._line([(x, y), (x, bottom)], "grid")
+        for link, listed in enumerate(self.sheet.links):
+            middle = y + step * (link + 0.5)
+            worst = link in self.worst_links
+            self._write(self.axis.left - 12, middle + 4, f"{link:2} {self.names[link]}", "worst-text" if worst else "", "end")
+            for left, right in self.axis.runs():
+                self._line([(left, middle), (right, middle)], "lane")
+            for khz in listed:
+                x = self.axis.x(khz)
+                self._line([(x, middle - 4), (x, middle + 4)], "candidate", f"{self.job.names[link]} can tune to {mhz(khz)} MHz")
+            if self.plan:
+                kind = "worst-dot" if worst else "dot"
+                self.shapes.append(f'<circle cx="{self.axis.x(self.plan[link]):.1f}" cy="{middle:.1f}" r="4" class="{kind}">'
+                                   f"<title>{escape(self.job.names[link])}: {mhz(self.plan[link])} MHz</title></circle>")
+        end = self._scale(bottom + 6)
+        told = ["grey strokes: the frequencies that a link can tune to"]
+        told += ["dots: the plan"] if self.plan else []
+        told += ["red: the tightest pair that a rule names"] if self.worst else []
+        self._write(self.axis.left, end + 4, "; ".join(told), "quiet")
+        return end + 20
+
+
+def _cut(name, most=LONGEST_NAME):
+    """A text of at most so many columns."""
+    if width(name) <= most:
+        return name
+    while width(name) >= most:
+        name = name[:-1]
+    return name + "…"

@@ -1,0 +1,65 @@
+"""Printing a sheet in the text form, with link0, link1, .. for the names that a sheet does not hold."""
+
+from .binary import EXACT, LISTED, SPACING
+from .text import mhz
+
+PAIRS_A_LINE = 6
+
+
+def show(sheet, job):
+    """The text of a sheet under a job's name without quotes: reading it gives the same sheet, byte for byte."""
+    names = [f"link{link}" for link in range(len(sheet.links))]
+    lines = [f'job "{job}"',
+             f"# {sheet.counted()}; frequencies in MHz, distances in kHz", ""]
+    for name, listed in zip(names, sheet.links):
+        lines.append(f"link {name} " + " ".join(mhz(khz) for khz in listed))
+    if sheet.rules:
+        lines.append("")
+    lines += _spacings(sheet, names)
+    for rule in sheet.rules:
+        if rule.kind == EXACT:
+            lines.append(f"exactly {rule.value} {names[rule.a]} {names[rule.b]}")
+    for rule in sheet.rules:
+        if rule.kind == LISTED:
+            lines += _listed(sheet, rule, names)
+    return "\n".join(lines) + "\n"
+
+
+def _listed(sheet, rule, names):
+    pairs = [f"{mhz(sheet.links[rule.a][p])}/{mhz(sheet.links[rule.b][q])}" for p, q in rule.pairs]
+    for start in range(0, len(pairs), PAIRS_A_LINE):
+        yield f"pairs {names[rule.a]} {names[rule.b]} " + " ".join(pairs[start:start + PAIRS_A_LINE])
+
+
+def _spacings(sheet, names):
+    """The lines of kind 1: the commonest value for all links where that is shorter, the others by groups of links."""
+    k = len(sheet.links)
+    ruled = {(rule.a, rule.b) for rule in sheet.rules}
+    free = {(a, b) for a in range(k) for b in range(a + 1, k)} - ruled
+    by_value = {}
+    for rule in sheet.rules:
+        if rule.kind == SPACING:
+            by_value.setdefault(rule.value, set()).add((rule.a, rule.b))
+    if not by_value:
+        return
+    common = max(by_value, key=lambda value: (len(by_value[value]), -value))
+    if len(by_value[common]) > 2 * len(free):
+        del by_value[common]
+        yield f"apart {common} all"
+        for group in _groups(free):
+            yield "free " + " ".join(names[link] for link in group)
+    for value in sorted(by_value):
+        for group in _groups(by_value[value]):
+            yield f"apart {value} " + " ".join(names[link] for link in group)
+
+
+def _groups(pairs):
+    """Groups of links that together hold just these pairs, each pair in one group."""
+    left = set(pairs)
+    while left:
+        group = list(min(left))
+        for link in sorted({b for _, b in left}):
+            if link > group[-1] and all((other, link) in left for other in group):
+                group.append(link)
+        left -= {(a, b) for i, a in enumerate(group) for b in group[i + 1:]}
+        yield group

@@ -1,0 +1,267 @@
+"""Reading the text form of a job sheet (docs/TEXT.md)."""
+
+import difflib
+import re
+from dataclasses import dataclass
+from fractions import Fraction
+
+from .binary import (EXACT, LISTED, MOST_FREQUENCIES, MOST_KHZ, MOST_LINKS, MOST_PAIRS, SPACING, Rule, Sheet)
+
+NUMBER = re.compile(r"([0-9]{1,18}(?:\.[0-9]{1,18})?)(khz|mhz)?", re.IGNORECASE)
+WORDS = ("job", "link", "apart", "exactly", "pairs", "free")
+
+
+@dataclass
+class Job:
+    """A sheet with what only the text form has: the job's name and a name for each link."""
+    name: str
+    names: list
+    sheet: Sheet
+    notes: list
+
+
+class TextError(Exception):
+    """Faults of a text; `faults` holds (line number, sentence)."""
+
+    def __init__(self, faults):
+        super().__init__("; ".join(f"line {line}: {sentence}" for line, sentence in faults))
+        self.faults = faults
+
+
+class _Expected(Exception):
+    """What one line should have held."""
+
+
+def parse(text):
+    """The job that a text describes; raises TextError with every line that is wrong."""
+    return _Reader(text.removeprefix("\ufeff")).job()
+
+
+def mhz(khz):
+    """A frequency as people write it: MHz with three decimals."""
+    return f"{khz // 1000}.{khz % 1000:03d}"
+
+
+def _split(line):
+    """The words of a line up to a comment. A word in double quotes may hold blanks; '#' begins a comment only before a word."""
+    words, rest = [], line.strip()
+    while rest and not rest.startswith("#"):
+        if rest.startswith('"'):
+            end = rest.find('"', 1)
+            if end < 0:
+                raise _Expected('expected a closing " for the name that begins with ' + rest[:20])
+            word, rest = rest[1:end], rest[end + 1:]
+            if rest and not rest[0].isspace():
+                raise _Expected(f'expected a blank after "{word}"')
+        else:
+            word, rest = (rest.split(None, 1) + [""])[:2]
+        words.append(word)
+        rest = rest.lstrip()
+    return words
+
+
+def _khz(word, what="a frequency", such="500.400 (MHz) or 500400 (kHz)"):
+    """The kHz of a number: with a point in MHz, without one in kHz, or in the unit written right after it."""
+    found = NUMBER.fullmatch(word)
+    if not found:
+        hint = " with a decimal point, no comma" if "," in word else ""
+        raise _Expected(f"expected {what} such as {such}{hint}, found {word}")
+    digits, unit = found.group(1), (found.group(2) or "").lower()
+    khz = Fraction(digits) * (1000 if unit == "mhz" or (not unit and "." in digits) else 1)
+    if not 1 <= khz <= MOST_KHZ:
+        raise _Expected(f"expected {what} of 1 to {MOST_KHZ:,} kHz, found {word}")
+    if khz.denominator != 1:
+        raise _Expected(f"expected {what} in whole kHz, found {word}, which is {float(khz):.10g} kHz")
+    return int(khz)
+
+
+def _distance(word):
+    return _khz(word, "a distance", "0.4 (MHz) or 400 (kHz)")
+
+
+class _Reader:
+    """The lines of one text, read in two passes: links first, so that rules may stand anywhere."""
+
+    def __init__(self, text):
+        self.text = text
+        self.faults, self.notes = [], []
+        self.job_name = None
+        self.names, self.links, self.link_lines = [], [], []
+        self.rule_lines = []
+        self.rules, self.named_at = {}, {}
+        self.seen_pairs = set()
+        self.default = None
+
+    def job(self):
+        last = 0
+        for number, line in enumerate(re.split("\r\n|\n|\r", self.text.rstrip()), 1):
+            self._try(number, self._first_pass, line)
+            last = number
+        for number, words in self.rule_lines:
+            self._try(number, self._rule, words)
+        if not self.faults:
+            self._whole(last)
+        if self.faults:
+            raise TextError(sorted(self.faults))
+        if self.default:
+            value, _ = self.default
+            for a in range(len(self.links)):
+                for b in range(a + 1, len(self.links)):
+                    if (a, b) not in self.named_at:
+                        self.rules[a, b] = Rule(a, b, SPACING, value)
+        rules = [self.rules[pair] for pair in sorted(self.rules)]
+        for rule in rules:
+            rule.pairs.sort()
+        return Job(self.job_name, self.names, Sheet(self.links, rules), self.notes)
+
+    def _try(self, number, step, line):
+        try:
+            step(number, line)
+        except _Expected as expected:
+            self.faults.append((number, str(expected)))
+
+    def _first_pass(self, number, line):
+        words = _split(line)
+        if not words:
+            return
+        word = words[0]
+        if word not in WORDS:
+            near = difflib.get_close_matches(word.lower(), WORDS, 1)
+            hint = f"; did you mean {near[0]}?" if near else ""
+            raise _Expected(f"expected a line that begins with {', '.join(WORDS[:-1])} or {WORDS[-1]}, found {word}{hint}")
+        if word != "job" and self.job_name is None:
+            self.job_name = ""
+            raise _Expected(f"expected the line 'job NAME' before every other line, found {word}")
+        if word == "job":
+            self._job(words)
+        elif word == "link":
+            self._link(number, words)
+        else:
+            self.rule_lines.append((number, words))
+
+    def _job(self, words):
+        if self.job_name:
+            raise _Expected("expected one job line, found a second one")
+        self.job_name = " ".join(words[1:])
+        if not self.job_name:
+            self.job_name = "unnamed"
+            raise _Expected("expected a name after job")
+
+    def _link(self, number, words):
+        if len(words) < 2:
+            raise _Expected("expected a name after link")
+        name, listed = words[1], {}
+        if not name or name == "all":
+            raise _Expected(f'expected a name other than "{name}"')
+        if name in self.names:
+            earlier = self.link_lines[self.names.index(name)]
+            raise _Expected(f"expected a new name, found {name}, which is the link of line {earlier}")
+        self.names.append(name)
+        self.links.append([])
+        self.link_lines.append(number)
+        if len(self.links) == MOST_LINKS + 1:
+            raise _Expected(f"expected at most {MOST_LINKS} links, found one more: {name}")
+        if len(words) == 2:
+            raise _Expected(f"expected at least one frequency after {name}")
+        for word in words[2:]:
+            if word.lower() in ("khz", "mhz"):
+                raise _Expected(f"expected the unit right after its number, as in 500.4MHz, found {word} by itself")
+            khz = _khz(word)
+            if khz in listed:
+                raise _Expected(f"expected each frequency once, found {word} and {listed[khz]}")
+            if word.isdigit() and khz < 10_000:
+                self.notes.append((number, f"{word} is read as {word} kHz; for MHz write {word}.0"))
+            listed[khz] = word
+        self.links[-1] = sorted(listed)
+        before = sum(len(other) for other in self.links[:-1])
+        if before <= MOST_FREQUENCIES < before + len(listed):
+            raise _Expected(f"expected at most {MOST_FREQUENCIES} frequencies in all, found {before + len(listed)} up to here")
+
+    def _rule(self, number, words):
+        word = words[0]
+        if word == "apart" and words[2:] == ["all"]:
+            self._default(number, words)
+        elif word in ("apart", "exactly"):
+            if len(words) < 2:
+                raise _Expected(f"expected a distance after {word}, such as 0.4 (MHz) or 400 (kHz)")
+            value = _distance(words[1])
+            kind = SPACING if word == "apart" else EXACT
+            for a, b in self._groups(word, words[2:]):
+                self._name(number, a, b)
+                self.rules[a, b] = Rule(a, b, kind, value)
+        elif word == "free":
+            for a, b in self._groups(word, words[1:]):
+                self._name(number, a, b)
+        else:
+            self._pairs(number, words)
+
+    def _default(self, number, words):
+        value = _distance(words[1])
+        if self.default:
+            raise _Expected(f"expected one line 'apart DISTANCE all', found a second one beside line {self.default[1]}")
+        self.default = (value, number)
+
+    def _groups(self, word, names):
+        """Every two of the named links, as (lower, higher)."""
+        if len(names) < 2 or (word == "exactly" and len(names) > 2):
+            wanted = "the names of two links" if word == "exactly" else "the names of two or more links"
+            either = ", or all," if word == "apart" else ""
+            raise _Expected(f"expected {wanted}{either} after {word}{' and the distance' if word != 'free' else ''}, "
+                            f"found {' '.join(names) or 'none'}")
+        links = [self._known(name) for name in names]
+        for index, link in enumerate(links):
+            if link in links[:index]:
+                raise _Expected(f"expected different links, found {names[index]} twice")
+        return [tuple(sorted((a, b))) for i, a in enumerate(links) for b in links[i + 1:]]
+
+    def _known(self, name):
+        if name in self.names:
+            return self.names.index(name)
+        near = difflib.get_close_matches(name, self.names, 1)
+        hint = f"; did you mean {near[0]}?" if near else ""
+        raise _Expected(f"expected the name of a link, found {name}{hint}")
+
+    def _name(self, number, a, b, kind=None):
+        """Notes that a line names two links; a second line on them is wrong, but for more pairs of kind 3."""
+        earlier = self.named_at.get((a, b))
+        if earlier and not (kind == LISTED and (a, b) in self.rules and self.rules[a, b].kind == LISTED):
+            raise _Expected(f"expected one rule for {self.names[a]} and {self.names[b]}, found a second one beside line {earlier}")
+        self.named_at.setdefault((a, b), number)
+
+    def _pairs(self, number, words):
+        if len(words) < 4:
+            raise _Expected("expected two links and at least one pair after pairs, such as: pairs A B 500.0/500.4")
+        (a, b), = self._groups("pairs", words[1:3])
+        if not self.links[a] or not self.links[b]:
+            return  # the link's own line is wrong and is reported
+        turned = self._known(words[1]) == b
+        self._name(number, a, b, LISTED)
+        rule = self.rules.setdefault((a, b), Rule(a, b, LISTED))
+        for word in words[3:]:
+            sides = word.split("/")
+            if len(sides) != 2:
+                raise _Expected(f"expected a pair of frequencies such as 500.0/500.4, found {word}")
+            pair = [self._position(name, side) for name, side in zip(words[1:3], sides)]
+            pair = tuple(reversed(pair)) if turned else tuple(pair)
+            if (a, b, pair) in self.seen_pairs:
+                raise _Expected(f"expected each pair once, found {word} a second time")
+            self.seen_pairs.add((a, b, pair))
+            rule.pairs.append(pair)
+
+    def _position(self, name, word):
+        listed = self.links[self._known(name)]
+        khz = _khz(word)
+        if khz not in listed:
+            raise _Expected(f"expected a frequency of {name} ({', '.join(mhz(f) for f in listed[:8])}"
+                            f"{', ..' if len(listed) > 8 else ''}), found {word}")
+        return listed.index(khz)
+
+    def _whole(self, last):
+        """What no single line shows."""
+        if self.job_name is None:
+            self.faults.append((1, "expected the line 'job NAME', found nothing but comments and blank lines"))
+        elif not self.links:
+            self.faults.append((max(last, 1), "expected at least one line 'link NAME FREQUENCY ..', found the end of the text"))
+        pairs = sum(len(rule.pairs) for rule in self.rules.values())
+        if pairs > MOST_PAIRS:
+            self.faults.append((self.rule_lines[-1][0], f"expected at most {MOST_PAIRS:,} allowed pairs in all, found {pairs:,}"))
