@@ -10,7 +10,8 @@ use lib.ListN.{length, getD, replicate, List·getD-eq-default}
 use borrow.Author.Tests.{eqb-true, ltb-true, ltb-false, le-leb, le-ltb}
 use Rattle.sets.specs.Below.{tabulate}
 use Rattle.sets.proofs.Lists.{length-tabulate, getD-tabulate, tabulate-same}
-use Rattle.sheet.specs.Sheet.{kOf, freq, freqPart}
+use Rattle.sheet_rows.specs.Rows.{freq}
+use Rattle.sheet.specs.Sheet.{kOf, freqPart}
 use Rattle.sheet.specs.Refusal.{refusal, passing, unless}
 use Rattle.sheet.proofs.Accepted.{accepted}
 use Rattle.rules.specs.Plans.{cellsOf, keepsSheet, yesNo, checked}
@@ -71,7 +72,7 @@ module _ (s : List ℕ) (filter choice limit : ℕ) (callers : List ℕ) (m r : 
           → Alike (elim b [ true ↦ told s r (answer limit (treeOf s filter choice callers)) | false ↦ refused (callRefusal s filter choice limit callers m workWords) r ])
           (elim b [ true ↦ told s m (answer limit (treeOf s filter choice callers)) | false ↦ refused (callRefusal s filter choice limit callers m workWords) m ])
       go true q = let a = call-accepted s filter choice limit callers m workWords (eqb-true _ 0 q) in
-          told-alike (accepted s (a .sheet) .k-small) (answer limit (treeOf s filter choice callers))
+          told-alike (accepted s (a .sheet) .head .k-small) (answer limit (treeOf s filter choice callers))
       go false q = record { answer = refl; nodes = refl; cells = λ i. zeros r i ∙ sym (zeros m i) }
 
 -- the planner lent the lesser of m and 64 cells
@@ -103,7 +104,7 @@ module _ (s : List ℕ) (g : ℕ → ℕ) (m r : ℕ) where
           ≡ passing b (refusal s) (λ _. passing (leb (kOf s) (length (tabulate m g))) 10 λ _. yesNo (keepsSheet s (tabulate m g)))
       go true q =
           let a = accepted s (eqb-true (refusal s) 0 q) in
-          let k = a .k-small in
+          let k = a .head .k-small in
           rw (length-tabulate r g, length-tabulate m g, le-leb (kOf s) r (omega arith), le-leb (kOf s) m (omega arith))
           (ap yesNo
           (keeps-same (parts-of s a) (cellsOf (tabulate r g)) (cellsOf (tabulate m g))

@@ -9,8 +9,8 @@ use borrow.Author.Tests.{not-false}
 use Rattle.sets.specs.Below.{one, count}
 use Rattle.sets.specs.Sets.{Set}
 use Rattle.sets.proofs.Tests.{clash, below as upto}
-use Rattle.vset.specs.Rows.{setAt, Outside}
-use Rattle.vset.proofs.Rows.{outside-none, outside-then, outside-wide}
+use Rattle.rows.specs.Rows.{setAt, Outside}
+use Rattle.rows.proofs.Rows.{outside-none, outside-then, outside-wide}
 use Rattle.cliques.specs.Graph.{Graph, isOpen}
 use Rattle.cliques.specs.Words.{Node}
 use Rattle.cliques.proofs.Graph.{pair-two}

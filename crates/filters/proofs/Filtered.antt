@@ -5,8 +5,8 @@ use mathlib.Core.List.{List}
 use Prim.Native.Nat.{ℕ, _≤_}
 use native.Mathlib.Omega.{arith}
 use Rattle.sets.specs.Sets.{Set, _⊆_}
-use Rattle.vset.specs.Rows.{setAt, Outside}
-use Rattle.vset.proofs.Rows.{below, outside-then, outside-wide}
+use Rattle.rows.specs.Rows.{setAt, Outside}
+use Rattle.rows.proofs.Rows.{below, outside-then, outside-wide}
 use Rattle.cliques.specs.Graph.{Graph, isOpen}
 use Rattle.cliques.specs.Words.{Node}
 use Rattle.cliques.proofs.Words.{node-less}

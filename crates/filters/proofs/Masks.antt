@@ -3,7 +3,6 @@ use mathlib.Core.Path.{_≡_, sym, ap, _∙_}
 use mathlib.Core.Bool.{Bool, true, false, _&&_}
 use mathlib.Core.List.{List}
 use Prim.Native.Nat.{ℕ, _+_, _*_, _≤_, _<_}
-use native.Mathlib.Decide.{decLt}
 use native.Mathlib.Omega.{arith}
 use lib.Dec.{eqb}
 use borrow.Author.Tests.{eqb-true, eq-eqb}
@@ -12,20 +11,11 @@ use Rattle.sets.specs.Sets.{_∩_}
 use Rattle.sets.proofs.Tests.{clash, is-false}
 use Rattle.sets.proofs.Below.{count-same}
 use Rattle.sets.proofs.Sets.{meet-l, meet-r, meet-in}
-use Rattle.vset.specs.Rows.{setAt, rowAt, Begins}
+use Rattle.rows.specs.Rows.{setAt, rowAt, Begins}
 use Rattle.vset.proofs.Count.{count-gap}
-use Rattle.vset.proofs.Rows.{set-past}
 use Rattle.cliques.specs.Graph.{Graph, At, inClass, size, some, isOpen}
 use Rattle.cliques.specs.Words.{Room, Node}
 use Rattle.cliques.proofs.Graph.{some-in, lower-at, open-in, open-out}
-
--- a vertex of a row is one that its words have a bit for
-pub row-member : (p : List ℕ) (w at v : ℕ) → setAt p w at v ≡ true → v < 64 * w
-row-member p w at v h = go (decLt v (64 * w))
-  where
-    go : Dec (v < 64 * w) → v < 64 * w
-    go (yes l) = l
-    go (no l) = clash (setAt p w at v) h (set-past p w at v (omega arith))
 
 module _ {G : Graph} {d w masks graph n k : ℕ} {p : List ℕ} (N : Node G d w masks graph n k p) where
   -- a live vertex in the mask of a class is a live vertex of the class

@@ -8,8 +8,8 @@ use native.Mathlib.Omega.{arith}
 use lib.Dec.{eqb}
 use Rattle.sets.specs.Sets.{Set, _∩_, _∪_}
 use Rattle.sets.proofs.Tests.{bool}
-use Rattle.vset.specs.Rows.{setAt, rowAt, Outside, Put}
-use Rattle.vset.proofs.Rows.{above, below, outside-none, outside-then, outside-wide}
+use Rattle.rows.specs.Rows.{setAt, rowAt, Outside, Put}
+use Rattle.rows.proofs.Rows.{above, below, outside-none, outside-then, outside-wide}
 use Rattle.cliques.specs.Graph.{Graph, isOpen}
 use Rattle.cliques.specs.Words.{Node}
 use Rattle.filters.specs.Filtered.{Filtered}

@@ -9,10 +9,10 @@ use native.Mathlib.Omega.{arith}
 use Rattle.sets.specs.Below.{any}
 use Rattle.sets.specs.Sets.{Set, _∩_, _∪_}
 use Rattle.sets.proofs.Below.{any-same}
+use Rattle.sets.proofs.Sets.{join-assoc}
 use Rattle.vset.specs.Words.{None, Least}
-use Rattle.vset.specs.Rows.{setAt, rowAt, Outside, Put}
-use Rattle.vset.proofs.Rows.{above, below, outside-none, outside-then, outside-wide}
-use Rattle.vset.proofs.Sets.{join-assoc}
+use Rattle.rows.specs.Rows.{setAt, rowAt, Outside, Put}
+use Rattle.rows.proofs.Rows.{above, below, outside-none, outside-then, outside-wide}
 use Rattle.filters.specs.Reach.{beside, Struck, SweptBy}
 
 or-false : (a b : Bool) → b ≡ false → (a || b) ≡ a

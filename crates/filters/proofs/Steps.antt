@@ -6,8 +6,8 @@ use Prim.Native.Nat.{ℕ, _*_, _≤_, _<_}
 use native.Mathlib.Omega.{arith}
 use Rattle.sets.specs.Below.{count}
 use Rattle.sets.specs.Sets.{Set}
-use Rattle.vset.specs.Rows.{setAt, Outside}
-use Rattle.vset.proofs.Rows.{outside-none, outside-then}
+use Rattle.rows.specs.Rows.{setAt, Outside}
+use Rattle.rows.proofs.Rows.{outside-none, outside-then}
 use Rattle.cliques.specs.Graph.{Graph, isOpen}
 use Rattle.cliques.specs.Words.{Node}
 use Rattle.cliques.proofs.Words.{node-less}

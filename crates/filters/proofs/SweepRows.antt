@@ -13,8 +13,8 @@ use Rattle.sets.specs.Below.{all, any}
 use Rattle.sets.specs.Sets.{Set, _∩_, _∪_, nothing}
 use Rattle.sets.proofs.Tests.{clash, bool, iff, is-false, or-l, or-r, or-case}
 use Rattle.sets.proofs.Below.{any-same, all-same, all-in, all-out}
-use Rattle.vset.specs.Rows.{setAt, rowAt, Outside}
-use Rattle.vset.proofs.Rows.{above, outside-none, outside-then}
+use Rattle.rows.specs.Rows.{setAt, rowAt, Outside}
+use Rattle.rows.proofs.Rows.{above, outside-none, outside-then}
 use Rattle.cliques.specs.Graph.{Graph, isOpen}
 use Rattle.cliques.specs.Words.{Held, Remains, Node}
 use Rattle.filters.specs.Filtered.{Filtered}

@@ -5,8 +5,8 @@ use mathlib.Core.List.{List}
 use Prim.Native.Nat.{ℕ, _≤_}
 use Rattle.sets.specs.Sets.{Set}
 use Rattle.sets.proofs.Tests.{clash, is-false}
-use Rattle.vset.specs.Rows.{setAt}
-use Rattle.vset.proofs.Rows.{outside-none, outside-then}
+use Rattle.rows.specs.Rows.{setAt}
+use Rattle.rows.proofs.Rows.{outside-none, outside-then}
 use Rattle.cliques.specs.Graph.{Graph, isOpen}
 use Rattle.cliques.specs.Words.{Node}
 use Rattle.cliques.proofs.Graph.{open-mono}

@@ -16,14 +16,14 @@ use Rattle.sets.proofs.Tests.{clash, bool, not-in, below as upto}
 use Rattle.sets.proofs.Below.{count-none}
 use Rattle.sets.proofs.Sets.{meet-l, without-sub, count-without}
 use Rattle.vset.specs.Words.{Least}
-use Rattle.vset.specs.Rows.{setAt, rowAt, Outside, Put}
+use Rattle.rows.specs.Rows.{setAt, rowAt, Outside, Put}
 use Rattle.vset.proofs.Count.{count-gap, count-next}
-use Rattle.vset.proofs.Parts.{tail-set, tail-back}
-use Rattle.vset.proofs.Rows.{above, below, outside-then, outside-wide}
+use Rattle.rows.proofs.Parts.{tail-set, tail-back}
+use Rattle.rows.proofs.Rows.{row-member, above, below, outside-then, outside-wide}
 use Rattle.cliques.specs.Graph.{Graph, At, size, two, lower, higher, isOpen}
-use Rattle.cliques.specs.Words.{Held, Node}
+use Rattle.cliques.specs.Words.{Node}
 use Rattle.cliques.proofs.Graph.{Pair, size-pos, size-without, without-at, two-pair, swap}
-use Rattle.cliques.proofs.Words.{held-same, node-less}
+use Rattle.cliques.proofs.Words.{held-same, held-tail, node-less}
 use Rattle.filters.specs.Failed.{alone, refuted, failed}
 use Rattle.filters.specs.Filtered.{Filtered}
 use Rattle.filters.specs.Step.{OnTheWay, Stepped, OneOfTwo, Stands, BothStand}
@@ -31,25 +31,10 @@ use Rattle.filters.specs.Unit.{unit}
 use Rattle.filters.specs.declared.Step.{Step}
 use Rattle.filters.specs.declared.Step.the-variants.{Shut, Open}
 use Rattle.filters.proofs.Failed.{Closed, refuted-out, failed-greatest}
-use Rattle.filters.proofs.Masks.{row-member, seen-at, size-words, Counted, in-mask, counted-size}
+use Rattle.filters.proofs.Masks.{seen-at, size-words, Counted, in-mask, counted-size}
 use Rattle.filters.proofs.Promise.{way-start, way-in, way-shut, shut-start}
 use Rattle.filters.proofs.Steps.{not-shut, open-is, step-none, step-shut, step-says, step-over, steps-shut, steps-then}
 use Rattle.filters.proofs.Unit.{unit-greatest}
-
--- the words of a part from the next row on hold the same graph
-pub held-tail : {G : Graph} {w masks graph n k : ℕ} {p : List ℕ} → w ≤ length p → w ≤ masks → w ≤ graph → Held G w masks graph n k p
-    → Held G w (masks - w) (graph - w) n k (midOf w (length p - w) p)
-held-tail {G} {w} {masks} {graph} {n} {k} {p} l a b H = record {
-  size = H .size;
-  classes = H .classes;
-  mask = λ c v i j. let e : w + (masks - w + c * w) ≡ masks + c * w = omega arith in
-      ap (λ (X : Set). X v) (tail-set w p l w (masks - w + c * w) ∙ ap (setAt p w) e) ∙ H .mask c v i j;
-  edge = λ u v i j. let e : w + (graph - w + u * w) ≡ graph + u * w = omega arith in
-      ap (λ (X : Set). X v) (tail-set w p l w (graph - w + u * w) ∙ ap (setAt p w) e) ∙ H .edge u v i j;
-  sy = H .sy;
-  apart = H .apart;
-  few = H .few;
-}
 
 -- a alone in its class
 alone-words : {G : Graph} {d w masks graph n k : ℕ} {p : List ℕ} → Node G d w masks graph n k p → (c a : ℕ) → c < k → At G c a (setAt p w 0)
@@ -133,7 +118,7 @@ module _ (a : ℕ) {d w masks graph n k c m : ℕ} {p p₁ p₂ ys : List ℕ} {
   opens : (G : Graph) → Node G d w masks graph n k p → r ≡ isOpen G d (unit G d (alone G a (setAt p w 0)))
   opens G N =
       let M : Node G d w (masks - w) (graph - w) n k (midOf w (length p₂ - w) p₂) = record {
-        held = held-tail fits (omega arith) (omega arith) (held-same out₂ (omega arith) (omega arith) (N .held));
+        held = held-tail w fits (omega arith) (omega arith) (held-same out₂ (omega arith) (omega arith) (N .held));
         live = λ v t. N .live v (alone-less G a (setAt p w 0) v (sym (ap (λ (X : Set). X v) (copy G N)) ∙ t));
       } in
       z .opens G M ∙ ap (λ (X : Set). isOpen G d (unit G d X)) (copy G N)

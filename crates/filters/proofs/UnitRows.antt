@@ -11,11 +11,10 @@ use Rattle.sets.specs.Below.{one, count}
 use Rattle.sets.specs.Sets.{Set, _∩_, _∪_, _∖_}
 use Rattle.sets.proofs.Tests.{clash, bool, is-false, below as upto}
 use Rattle.sets.proofs.Below.{count-less}
-use Rattle.sets.proofs.Sets.{meet-l, meet-r}
+use Rattle.sets.proofs.Sets.{meet-l, meet-r, meet-self}
 use Rattle.vset.specs.Words.{Least, Emptiness}
-use Rattle.vset.specs.Rows.{setAt, rowAt, Outside, Put}
-use Rattle.vset.proofs.Rows.{below, outside-none, outside-then, outside-wide}
-use Rattle.vset.proofs.Sets.{meet-self}
+use Rattle.rows.specs.Rows.{setAt, rowAt, Outside, Put}
+use Rattle.rows.proofs.Rows.{row-member, below, outside-none, outside-then, outside-wide}
 use Rattle.cliques.specs.Graph.{Graph, size, some, lone, lower, isOpen}
 use Rattle.cliques.specs.Words.{Node}
 use Rattle.cliques.proofs.Graph.{size-pos, size-some, lower-at, lone-sole, open-in, open-out}
@@ -24,7 +23,7 @@ use Rattle.filters.specs.Filtered.{Filtered}
 use Rattle.filters.specs.Step.{OnTheWay, Stepped, StruckOthers, Calm, Rests}
 use Rattle.filters.specs.Unit.{stays, strike, unit}
 use Rattle.filters.specs.declared.Step.the-variants.{Shut, Open}
-use Rattle.filters.proofs.Masks.{row-member, seen-at, at-seen, Counted, in-mask, counted-size}
+use Rattle.filters.proofs.Masks.{seen-at, at-seen, Counted, in-mask, counted-size}
 use Rattle.filters.proofs.Promise.{way-start, way-in, way-on, way-ends, way-shut, shut-start}
 use Rattle.filters.proofs.Steps.{not-shut, open-is, step-none, step-shut}
 use Rattle.filters.proofs.Unit.{UnitClosed, unit-greatest, strike-keeps, settled-closed}

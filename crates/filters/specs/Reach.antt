@@ -5,7 +5,7 @@ use mathlib.Core.List.{List}
 use Prim.Native.Nat.{ℕ, _+_}
 use Rattle.sets.specs.Below.{any}
 use Rattle.sets.specs.Sets.{Set, _∩_, _∪_}
-use Rattle.vset.specs.Rows.{setAt, rowAt, Outside}
+use Rattle.rows.specs.Rows.{setAt, rowAt, Outside}
 
 -- the neighbours of the members of S below m: u is in the row of one of them
 unfoldable pub beside : List ℕ → ℕ → Set → ℕ → ℕ → Set

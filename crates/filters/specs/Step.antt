@@ -5,7 +5,7 @@ use mathlib.Core.List.{List}
 use Prim.Native.Nat.{ℕ, _+_, _*_, _≤_, _<_}
 use Rattle.sets.specs.Below.{count}
 use Rattle.sets.specs.Sets.{Set, _⊆_, _∩_, _∪_}
-use Rattle.vset.specs.Rows.{setAt, rowAt, Outside}
+use Rattle.rows.specs.Rows.{setAt, rowAt, Outside}
 use Rattle.cliques.specs.Graph.{Graph, At, some, lone, two, isOpen}
 use Rattle.cliques.specs.Words.{Node}
 use Rattle.filters.specs.Promise.{Filter}

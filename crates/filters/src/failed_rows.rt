@@ -7,12 +7,6 @@ ghost use Rattle.filters.specs.Filtered.{Filtered};
 ghost use Rattle.filters.specs.Step.{Stepped, OneOfTwo, Stands, BothStand, AllStand};
 use crate::Step;
 use crate::unit_rows::unit_steps;
-use vset::row::add_to_row;
-use vset::row::cut_rows;
-use vset::row::next_in_common_rows;
-use vset::row::row_at;
-use vset::row::size_of_common_rows;
-use vset::row::take_from_row;
 
 // A trial of vertex a, of class c with two live vertices: alone in its class, on a copy in row 1. Where unit steps refute that, it is struck, and unit
 // steps run.
@@ -30,15 +24,15 @@ fn trial(
     requires { ⌜ Room (w + w + w + w) w masks graph n k (length (now part)) × (d ≤ c) × (c < k) × OneOfTwo w masks c a (now part) ⌝ }
     ensures { λ r. ⌜ Stepped failedVertices (λ G. Stands G d a) (w + w + w + w) d w masks graph n k (now (part .entry)) (now (part .exit)) r ⌝ }
 {
-    let m = row_at(masks, w, c, k);
-    cut_rows(part, w, w, 0, m);
-    add_to_row(part, w, w, a);
+    let m = rows::row_at(masks, w, c, k);
+    rows::cut(part, w, w, 0, m);
+    rows::insert(part, w, w, a);
     let masks_there = masks - w;
     let graph_there = graph - w;
     if unit_steps(&mut part[w..], w, masks_there, graph_there, n, k, d) {
         return Step::Open { struck: false };
     }
-    take_from_row(part, w, 0, a);
+    rows::remove(part, w, 0, a);
     if unit_steps(part, w, masks, graph, n, k, d) {
         Step::Open { struck: true }
     } else {
@@ -60,11 +54,11 @@ fn try_class(
     requires { ⌜ Room (w + w + w + w) w masks graph n k (length (now part)) × (d ≤ c) × (c < k) ⌝ }
     ensures { λ r. ⌜ Stepped failedVertices (λ G. BothStand G d c) (w + w + w + w) d w masks graph n k (now (part .entry)) (now (part .exit)) r ⌝ }
 {
-    let m = row_at(masks, w, c, k);
-    if size_of_common_rows(part, w, 0, m) != 2 {
+    let m = rows::row_at(masks, w, c, k);
+    if rows::size_common(part, w, 0, m) != 2 {
         return Step::Open { struck: false };
     }
-    let a = next_in_common_rows(part, w, 0, m, 0);
+    let a = rows::next_common(part, w, 0, m, 0);
     let Step::Open { struck } = trial(part, w, masks, graph, n, k, d, c, a) else {
         return Step::Shut;
     };
@@ -72,7 +66,7 @@ fn try_class(
     if struck {
         return Step::Open { struck: true };
     }
-    let b = next_in_common_rows(part, w, 0, m, a + 1);
+    let b = rows::next_common(part, w, 0, m, a + 1);
     trial(part, w, masks, graph, n, k, d, c, b)
 }
 

@@ -10,7 +10,7 @@ pub mod unit_rows;
 ghost use mathlib.Core.Path.{_≡_};
 ghost use Prim.Native.Nat.{_+_, _≤_};
 ghost use lib.ListN.{length};
-ghost use Rattle.vset.specs.Rows.{setAt};
+ghost use Rattle.rows.specs.Rows.{setAt};
 ghost use Rattle.cliques.specs.Graph.{Graph, isOpen};
 ghost use Rattle.cliques.specs.Words.{Room, Node};
 ghost use Rattle.filters.specs.Failed.{failed as failedVertices};
@@ -19,8 +19,6 @@ ghost use Rattle.filters.specs.Switches.{switched, on, atNode};
 use failed_rows::failed;
 pub use pre_filter_rows::pre_filter;
 use sweep_rows::sweep;
-use vset::row::no_common_rows;
-use vset::row::row_at;
 
 // How strikes of a filter came out: a remaining class is empty, or will be; or the filter goes on, and a vertex was struck or not.
 pub enum Step {
@@ -43,8 +41,8 @@ pub fn is_open(
 {
     let mut c = d;
     while c < k {
-        let m = row_at(masks, w, c, k);
-        if no_common_rows(part, w, 0, m) {
+        let m = rows::row_at(masks, w, c, k);
+        if rows::is_empty_common(part, w, 0, m) {
             return false;
         }
         c += 1;

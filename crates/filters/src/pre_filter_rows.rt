@@ -6,8 +6,6 @@ ghost use Rattle.filters.specs.Filtered.{Filtered};
 ghost use Rattle.filters.specs.PreFilter.{preFilter};
 use crate::is_open;
 use crate::reach_rows::strike_unreached;
-use vset::row::copy_row;
-use vset::row::row_at;
 
 // The pre-filter, by the masks of the layers: whether it leaves no layer empty. The graph of the contract is the one whose classes are the layers.
 pub fn pre_filter(
@@ -24,8 +22,8 @@ pub fn pre_filter(
     let u = w + w;
     let mut e = 0;
     while e < k {
-        let m = row_at(layers, w, e, k);
-        copy_row(part, w, u, m);
+        let m = rows::row_at(layers, w, e, k);
+        rows::copy(part, w, u, m);
         strike_unreached(part, w, m, graph, n);
         e += 1;
     }

@@ -2,23 +2,19 @@
 ghost use Prim.Native.Nat.{_+_, _*_, _^_, _<_, _≤_};
 ghost use lib.ListN.{length};
 ghost use Rattle.sets.specs.Sets.{_∪_};
-ghost use Rattle.vset.specs.Rows.{setAt, Put};
+ghost use Rattle.rows.specs.Rows.{setAt, Put};
 ghost use Rattle.filters.specs.Reach.{beside, Struck};
-use vset::row::join_rows;
-use vset::row::meet_rows;
-use vset::row::next_in_row;
-use vset::row::row_at;
 
 // To row u are added the neighbours of each vertex of row a below n.
 fn add_neighbours(part: &mut [u64], w: usize, a: usize, u: usize, graph: usize, n: usize)
     requires { ⌜ (a + w ≤ u) × (u + w ≤ graph) × (graph + n * w ≤ length (now part)) × (n ≤ 64 * w) × (64 * w < 2 ^ 64) ⌝ }
     ensures { λ r. ⌜ Put (setAt (now (part .entry)) w u ∪ beside (now (part .entry)) w (setAt (now (part .entry)) w a) graph n) w u (now (part .entry)) (now (part .exit)) ⌝ }
 {
-    let mut v = next_in_row(part, w, a, 0);
+    let mut v = rows::next_member(part, w, a, 0);
     while v < n {
-        let g = row_at(graph, w, v, n);
-        join_rows(part, w, u, u, g);
-        v = next_in_row(part, w, a, v + 1);
+        let g = rows::row_at(graph, w, v, n);
+        rows::join(part, w, u, u, g);
+        v = rows::next_member(part, w, a, v + 1);
     }
 }
 
@@ -28,7 +24,7 @@ pub fn strike_unreached(part: &mut [u64], w: usize, m: usize, graph: usize, n: u
     ensures { λ r. ⌜ Struck w m graph n (now (part .entry)) (now (part .exit)) ⌝ }
 {
     let u = w + w;
-    meet_rows(part, w, w, 0, m);
+    rows::meet(part, w, w, 0, m);
     add_neighbours(part, w, w, u, graph, n);
-    meet_rows(part, w, 0, 0, u);
+    rows::meet(part, w, 0, 0, u);
 }

@@ -7,10 +7,6 @@ ghost use Rattle.filters.specs.Reach.{SweptBy};
 ghost use Rattle.filters.specs.Sweep.{sweep as colourSweep};
 use crate::is_open;
 use crate::reach_rows::strike_unreached;
-use vset::row::clear_row;
-use vset::row::copy_row;
-use vset::row::join_rows;
-use vset::row::row_at;
 
 // The class with its mask at m strikes in the classes that are not in row 3; it is added to row 3 first.
 fn sweep_by(part: &mut [u64], w: usize, m: usize, graph: usize, n: usize)
@@ -19,8 +15,8 @@ fn sweep_by(part: &mut [u64], w: usize, m: usize, graph: usize, n: usize)
 {
     let u = w + w;
     let a = u + w;
-    join_rows(part, w, a, a, m);
-    copy_row(part, w, u, a);
+    rows::join(part, w, a, a, m);
+    rows::copy(part, w, u, a);
     strike_unreached(part, w, m, graph, n);
 }
 
@@ -38,10 +34,10 @@ pub fn sweep(
     ensures { λ r. ⌜ Filtered colourSweep (w + w + w + w) d w masks graph n k (now (part .entry)) (now (part .exit)) r ⌝ }
 {
     let a = w + w + w;
-    clear_row(part, w, a);
+    rows::clear(part, w, a);
     let mut e = d;
     while e < k {
-        let m = row_at(masks, w, e, k);
+        let m = rows::row_at(masks, w, e, k);
         sweep_by(part, w, m, graph, n);
         e += 1;
     }

@@ -5,32 +5,26 @@ ghost use mathlib.Core.Bool.{true};
 ghost use Prim.Native.Nat.{ℕ, _+_, _*_, _<_, _≤_};
 ghost use lib.ListN.{length};
 ghost use Rattle.sets.specs.Below.{count};
-ghost use Rattle.vset.specs.Rows.{setAt};
+ghost use Rattle.rows.specs.Rows.{setAt};
 ghost use Rattle.cliques.specs.Words.{Room};
 ghost use Rattle.filters.specs.Filtered.{Filtered};
 ghost use Rattle.filters.specs.Step.{Stepped, StruckOthers, Calm, Rests};
 ghost use Rattle.filters.specs.Unit.{unit};
 use crate::Step;
-use vset::row::cut_rows;
-use vset::row::join_rows;
-use vset::row::next_in_common_rows;
-use vset::row::no_common_rows;
-use vset::row::row_at;
-use vset::row::size_of_common_rows;
 
 // Strikes from the own row whoever is neither a neighbour of v nor in row m: whether there was one.
 fn strike_others(part: &mut [u64], w: usize, m: usize, graph: usize, n: usize, v: usize) -> bool
     requires { ⌜ (w + w ≤ m) × (m + w ≤ length (now part)) × (w + w ≤ graph) × (graph + n * w ≤ length (now part)) × (v < n) ⌝ }
     ensures { λ r. ⌜ StruckOthers w m graph v (now (part .entry)) (now (part .exit)) r ⌝ }
 {
-    let g = row_at(graph, w, v, n);
+    let g = rows::row_at(graph, w, v, n);
     // row 1: who may stay, then who is to be struck
-    join_rows(part, w, w, g, m);
-    cut_rows(part, w, w, 0, w);
-    if no_common_rows(part, w, w, w) {
+    rows::join(part, w, w, g, m);
+    rows::cut(part, w, w, 0, w);
+    if rows::is_empty_common(part, w, w, w) {
         return false;
     }
-    cut_rows(part, w, 0, 0, w);
+    rows::cut(part, w, 0, 0, w);
     true
 }
 
@@ -47,15 +41,15 @@ fn visit(
     requires { ⌜ Room (w + w) w masks graph n k (length (now part)) × (c < k) ⌝ }
     ensures { λ r. ⌜ ((d : ℕ) → d ≤ c → Stepped unit (λ G. Calm G d c) (w + w) d w masks graph n k (now (part .entry)) (now (part .exit)) r) ⌝ }
 {
-    let m = row_at(masks, w, c, k);
-    let live = size_of_common_rows(part, w, 0, m);
+    let m = rows::row_at(masks, w, c, k);
+    let live = rows::size_common(part, w, 0, m);
     if live == 0 {
         return Step::Shut;
     }
     if live > 1 {
         return Step::Open { struck: false };
     }
-    let v = next_in_common_rows(part, w, 0, m, 0);
+    let v = rows::next_common(part, w, 0, m, 0);
     // never at a node: there each live vertex is below n
     if v >= n {
         return Step::Open { struck: false };

@@ -11,7 +11,8 @@ use Rattle.sets.specs.Below.{all, any, first}
 use Rattle.sets.specs.Sets.{whole}
 use Rattle.sets.proofs.Tests.{clash, bool, is-false, and-l, and-r, and-in}
 use Rattle.sets.proofs.Below.{all-in, all-out, all-same, any-in, first-lt, first-is, first-found}
-use Rattle.sheet.specs.Sheet.{kOf, nOf, qOf, tOf, linkPart, freqPart, rulePart, pairPart, mostKHz, linkFirst, linkCount, freq, freqOk, linkFreqsOk, freqsOk, ruleA, ruleB, linksOk, rulesOk, pairsOk}
+use Rattle.sheet_rows.specs.Rows.{linkFirst, linkCount, freq, ruleA, ruleB}
+use Rattle.sheet.specs.Sheet.{kOf, nOf, qOf, tOf, linkPart, freqPart, rulePart, pairPart, mostKHz, freqOk, linkFreqsOk, freqsOk, linksOk, rulesOk, pairsOk}
 use Rattle.sheet.specs.Refusal.{formOk, linkCountOk, countsOk, offsetsOk, passing, unless, sectionCause, refusal}
 use Rattle.sheet.proofs.Accepted.{accepted}
 use Rattle.rules.specs.Layers.{layerOf, InLink}

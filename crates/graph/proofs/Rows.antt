@@ -4,26 +4,28 @@ use mathlib.Core.Bool.{Bool, true, false, not, _&&_, _||_}
 use mathlib.Core.List.{List}
 use Prim.Native.Nat.{ℕ, _+_, _-_, _*_, _≤_, _<_}
 use native.Mathlib.Decide.{ℕ-discrete, decLt}
+use native.Mathlib.Nat.{mul-le-mul-right}
 use native.Mathlib.Omega.{arith}
 use lib.Dec.{eqb, ltb}
 use lib.ListN.{length, take, drop}
 use borrow.Author.Tests.{eqb-true, eq-eqb, ne-eqb, lt-ltb, le-ltb}
-use Rattle.sets.specs.Below.{all, any, count}
+use Rattle.sets.specs.Below.{all, count}
 use Rattle.sets.specs.Sets.{Set, _∪_, _∖_, nothing, whole}
-use Rattle.sets.proofs.Tests.{clash, bool, is-false, and-false}
-use Rattle.sets.proofs.Below.{all-step}
-use Rattle.sheet.specs.Sheet.{linkFirst, linkCount, ruleA, ruleB}
+use Rattle.sets.proofs.Tests.{clash, bool, is-false, and-l, and-r, and-in, and-false}
+use Rattle.sets.proofs.Below.{all-in, all-step}
+use Rattle.sheet_rows.specs.Rows.{linkFirst, linkCount, ruleA, ruleB}
 use Rattle.sheet.proofs.Links.{link-in}
+use Rattle.sheet.proofs.Rules.{rule-after}
 use Rattle.rules.specs.Layers.{layerOf, InLink}
 use Rattle.rules.specs.Pairs.{allows, fits, joins}
 use Rattle.rules.specs.Parts.{Parts}
-use Rattle.rules.proofs.Laws.{layer-of, layer-in, link-test, rule-links}
+use Rattle.rules.proofs.Laws.{layer-of, layer-in, in-link-lt, link-test, rule-links}
 use Rattle.vset.specs.Words.{has}
-use Rattle.vset.specs.Rows.{setAt, rowAt, Outside, Put}
-use Rattle.vset.proofs.Rows.{row-inside, row-length, outside-none, outside-then, outside-wide, below}
+use Rattle.rows.specs.Rows.{setAt, rowAt, Begins, Outside, Put}
+use Rattle.rows.proofs.Rows.{row-inside, row-length, outside-none, outside-then, outside-wide, above, below}
 use Rattle.graph.specs.Graph.{adjacent}
 use Rattle.graph.specs.Rows.{RowsFit, Built}
-use Rattle.graph.specs.Strikes.{stretch, sideOf, barred, Struck}
+use Rattle.graph.specs.Strikes.{stretch, sideOf, barred, Full, Struck}
 use Rattle.graph.proofs.Spans.{stretch-out, stretch-whole}
 use Rattle.graph.proofs.Strikes.{stretch-put}
 use Rattle.graph.proofs.Sides.{barred-a, barred-b}
@@ -78,6 +80,10 @@ module _ {ls fs rs ps : List ℕ} {k n q t : ℕ} (P : Parts ls fs rs ps k n q t
   stretch-past : (l v : ℕ) → l < k → (v < n → ⊥) → stretch (linkFirst ls l) (linkFirst ls l + linkCount ls l) v ≡ false
   stretch-past l v g o = is-false _ (λ e. let x = stretch-out (linkFirst ls l) (linkFirst ls l + linkCount ls l) v e in omega (arith, link-in ls k n (P .links) l g, o))
 
+  -- a vertex of link l is of no other
+  one-link : (l m u : ℕ) → m < k → l ≡ layerOf ls k u → (l ≡ m → ⊥) → linkFirst ls m ≤ u → u < linkFirst ls m + linkCount ls m → ⊥
+  one-link l m u g e ne d h = ne (e ∙ layer-of ls k n (P .links) m u g (record { low = d; high = h }))
+
   -- no rule yet
   pub adjacent-none : (u : ℕ) → u < n
       → whole n ∖ stretch (linkFirst ls (layerOf ls k u)) (linkFirst ls (layerOf ls k u) + linkCount ls (layerOf ls k u)) ≡ adjacent ls fs rs ps k n 0 u
@@ -130,20 +136,65 @@ module _ {ls fs rs ps : List ℕ} {k n q t : ℕ} (P : Parts ls fs rs ps k n q t
         last true false = refl
         last false b = refl
 
+    -- no rule before j is of its links: until then each vertex of the one is adjacent to each of the other
+    pass : (a x c y : ℕ) (z : Bool) → (a ≡ x → c ≡ y → ⊥) → not (eqb a x && eqb c y) || z ≡ true
+    pass a x c y z h = rw (is-false (eqb a x && eqb c y) (λ e. h (eqb-true a x (and-l (eqb a x) _ e)) (eqb-true c y (and-r (eqb a x) _ e))))
+
+    yet-adjacent : (l m u v : ℕ) → l < k → m < k → (l ≡ m → ⊥) → InLink ls l u → InLink ls m v
+        → ((i : ℕ) → i < j → (ruleA rs i ≡ l → ruleB rs i ≡ m → ⊥) × (ruleA rs i ≡ m → ruleB rs i ≡ l → ⊥)) → adjacent ls fs rs ps k n j u v ≡ true
+    unfolding adjacent joins fits
+    yet-adjacent l m u v g h ne iu iv no-rule =
+        let x = layer-of ls k n (P .links) l u g iu in
+        let y = layer-of ls k n (P .links) m v h iv in
+        let z = all-in j (λ i. fits ls fs rs ps l m u v i && fits ls fs rs ps m l v u i)
+        (λ i a. and-in (pass (ruleA rs i) l (ruleB rs i) m _ (no-rule i a .0)) (pass (ruleA rs i) m (ruleB rs i) l _ (no-rule i a .1))) in
+        rw (x, y, lt-ltb u n (in-link-lt ls k n (P .links) l u g iu), lt-ltb v n (in-link-lt ls k n (P .links) m v h iv), ne-eqb l m ne) z
+
+    earlier : (i : ℕ) → i < j → (ruleA rs i ≡ ruleA rs j → ruleB rs i ≡ ruleB rs j → ⊥) × (ruleA rs i ≡ ruleB rs j → ruleB rs i ≡ ruleA rs j → ⊥)
+    earlier i l =
+        let a = rule-after rs k q t i j (P .rules) l b in
+        let o = rule-links P j b in
+        let r = rule-links P i (omega arith) in
+        (λ e f. let s = a .higher e in omega arith, λ e f. omega arith)
+
+    -- the rows of both its links before it strikes, and of the other link after the first is struck
+    pub full-a : {w graph : ℕ} {p : List ℕ} → ((u : ℕ) → u < n → rowAt p w graph u ≡ adjacent ls fs rs ps k n j u) → Full (sideOf ls rs j false (ruleA rs j) (ruleB rs j)) w graph p
+    full-a R = record {
+      row = λ u c d v e.
+          let o = rule-links P j b in
+          let z : ruleA rs j < k = omega arith in
+          let x = stretch-out _ _ v e in
+          let i : InLink ls (ruleA rs j) u = record { low = c; high = d } in
+          ap (λ (X : Set). X v) (R u (in-link-lt ls k n (P .links) (ruleA rs j) u z i))
+          ∙ yet-adjacent (ruleA rs j) (ruleB rs j) u v z (o .1) (λ g. omega arith) i (record { low = x .0; high = x .1 }) earlier;
+    }
+
+    pub full-b : {w graph : ℕ} {p₀ p : List ℕ}
+        → Struck (barred fs ps (sideOf ls rs j false (ruleA rs j) (ruleB rs j))) (linkFirst ls (ruleA rs j)) (linkFirst ls (ruleA rs j) + linkCount ls (ruleA rs j)) w graph n p₀ p
+        → ((u : ℕ) → u < n → rowAt p₀ w graph u ≡ adjacent ls fs rs ps k n j u) → Full (sideOf ls rs j true (ruleB rs j) (ruleA rs j)) w graph p
+    full-b A R = record {
+      row = λ u c d v e.
+          let o = rule-links P j b in
+          let z : ruleA rs j < k = omega arith in
+          let x = stretch-out _ _ v e in
+          let i : InLink ls (ruleB rs j) u = record { low = c; high = d } in
+          let h = in-link-lt ls k n (P .links) (ruleB rs j) u (o .1) i in
+          let y = layer-of ls k n (P .links) (ruleB rs j) u (o .1) i in
+          ap (λ (X : Set). X v) (A .others u h (one-link (ruleB rs j) (ruleA rs j) u z (sym y) (λ g. omega arith)) ∙ R u h)
+          ∙ yet-adjacent (ruleB rs j) (ruleA rs j) u v (o .1) z (λ g. omega arith) i (record { low = x .0; high = x .1 })
+          (λ i l. let f = earlier i l in (f .1, f .0));
+    }
+
     -- both sides struck: the rows under one rule more
-    pub rule-built : {w spare graph : ℕ} {p₀ p p′ : List ℕ}
-        → Struck (barred fs ps (sideOf ls rs j false (ruleA rs j) (ruleB rs j))) (linkFirst ls (ruleA rs j)) (linkFirst ls (ruleA rs j) + linkCount ls (ruleA rs j)) w spare graph n p₀ p
-        → Struck (barred fs ps (sideOf ls rs j true (ruleB rs j) (ruleA rs j))) (linkFirst ls (ruleB rs j)) (linkFirst ls (ruleB rs j) + linkCount ls (ruleB rs j)) w spare graph n p p′
-        → ((u : ℕ) → u < n → rowAt p₀ w graph u ≡ adjacent ls fs rs ps k n j u) → Built ls fs rs ps k n (j + 1) w spare graph p₀ p′
-    rule-built {w} {spare} {graph} {p₀} {p} {p′} A B R = record {
+    pub rule-built : {w graph : ℕ} {p₀ p p′ : List ℕ}
+        → Struck (barred fs ps (sideOf ls rs j false (ruleA rs j) (ruleB rs j))) (linkFirst ls (ruleA rs j)) (linkFirst ls (ruleA rs j) + linkCount ls (ruleA rs j)) w graph n p₀ p
+        → Struck (barred fs ps (sideOf ls rs j true (ruleB rs j) (ruleA rs j))) (linkFirst ls (ruleB rs j)) (linkFirst ls (ruleB rs j) + linkCount ls (ruleB rs j)) w graph n p p′
+        → ((u : ℕ) → u < n → rowAt p₀ w graph u ≡ adjacent ls fs rs ps k n j u) → Built ls fs rs ps k n (j + 1) w graph p₀ p′
+    rule-built {w} {graph} {p₀} {p} {p′} A B R = record {
       rows = λ u h. go u h;
       rest = outside-then (A .rest) (B .rest);
     }
       where
-        -- a vertex of link l is of no other
-        one-link : (l m u : ℕ) → m < k → l ≡ layerOf ls k u → (l ≡ m → ⊥) → linkFirst ls m ≤ u → u < linkFirst ls m + linkCount ls m → ⊥
-        one-link l m u g e ne d h = ne (e ∙ layer-of ls k n (P .links) m u g (record { low = d; high = h }))
-
         in-link : (l u : ℕ) → u < n → l ≡ layerOf ls k u → InLink ls l u
         in-link l u h e = rw e (layer-in ls k n (P .links) u h .1)
 
@@ -182,42 +233,46 @@ row-ones p w a h = let e : a + w - a ≡ w = omega arith in let n = row-length p
 
 -- the rows before any rule, written one after another
 
-pub record Started (ls fs rs ps : List ℕ) (k n w spare graph : ℕ) (p₀ p : List ℕ) (u : ℕ) : Type 0 where
+pub record Started (ls fs rs ps : List ℕ) (k n w last graph : ℕ) (p₀ p : List ℕ) (u : ℕ) : Type 0 where
   pub upto : u ≤ n
-  pub fit : RowsFit w spare graph n (length p)
-  pub every : setAt p w spare ≡ whole n
+  pub fit : RowsFit w graph n (length p)
+  pub every : u < n → setAt p w last ≡ whole n
   pub rows : (x : ℕ) → x < u → rowAt p w graph x ≡ adjacent ls fs rs ps k n 0 x
-  pub rest : Outside spare (graph + n * w) p₀ p
+  pub rest : Outside graph (graph + n * w) p₀ p
 
 -- the words were written and are as many
-pub fit-same : {w spare graph n lo hi : ℕ} {p q : List ℕ} → RowsFit w spare graph n (length p) → Outside lo hi p q → RowsFit w spare graph n (length q)
-fit-same F x = record { wide = F .wide; small = F .small; apart = F .apart; inside = rw (x .len) (F .inside) }
+pub fit-same : {w graph n lo hi : ℕ} {p q : List ℕ} → RowsFit w graph n (length p) → Outside lo hi p q → RowsFit w graph n (length q)
+fit-same F x = record { wide = F .wide; small = F .small; inside = rw (x .len) (F .inside) }
 
--- the spare row with every vertex
-pub every-put : {n w spare graph : ℕ} {p q r : List ℕ} → RowsFit w spare graph n (length p)
-    → Put nothing w spare p q → Put (setAt q w spare ∪ stretch 0 n) w spare q r → (setAt r w spare ≡ whole n) × Outside spare (graph + n * w) p r
-every-put {n} {w} {spare} {graph} F P Q =
+-- no row begins behind the last
+pub row-last : (u n w : ℕ) → u < n → u * w ≤ (n - 1) * w
+row-last u n w h = mul-le-mul-right {m = u} {n = n - 1} w (omega arith)
+
+-- the last row with every vertex
+pub every-put : {n w last graph : ℕ} {p q r : List ℕ} → Begins graph w (n - 1) n last
+    → Put nothing w last p q → Put (setAt q w last ∪ stretch 0 n) w last q r → (setAt r w last ≡ whole n) × Outside graph (graph + n * w) p r
+every-put {n} {w} {last} {graph} B P Q =
     let X = stretch-put 0 n P Q in
-    (X .here ∙ stretch-whole n, outside-wide spare (graph + n * w) (omega arith) (omega (arith, F .apart)) (X .rest))
+    (X .here ∙ stretch-whole n, outside-wide graph (graph + n * w) (omega (arith, B .here)) (B .inside) (X .rest))
 
-pub started-none : (ls fs rs ps : List ℕ) (k : ℕ) {n w spare graph : ℕ} {p : List ℕ} → RowsFit w spare graph n (length p) → setAt p w spare ≡ whole n
-    → Started ls fs rs ps k n w spare graph p p 0
-started-none ls fs rs ps k {n} {w} {spare} {graph} {p} F e = record {
+pub started-none : (ls fs rs ps : List ℕ) (k : ℕ) {n w last graph : ℕ} {p : List ℕ} → RowsFit w graph n (length p) → setAt p w last ≡ whole n
+    → Started ls fs rs ps k n w last graph p p 0
+started-none ls fs rs ps k {n} {w} {last} {graph} {p} F e = record {
   upto = omega arith;
   fit = F;
-  every = e;
+  every = λ l. e;
   rows = λ x l. absurd (omega arith);
   rest = outside-none _ _ p;
 }
 
-pub started-more : {ls fs rs ps : List ℕ} {k n w spare graph u : ℕ} {p₀ p q : List ℕ} → Started ls fs rs ps k n w spare graph p₀ p u → u < n
-    → Put (adjacent ls fs rs ps k n 0 u) w (graph + u * w) p q → Started ls fs rs ps k n w spare graph p₀ q (u + 1)
-started-more {ls} {fs} {rs} {ps} {k} {n} {w} {spare} {graph} {u} {p₀} {p} {q} S h P = record {
+pub started-more : {ls fs rs ps : List ℕ} {k n w last graph u : ℕ} {p₀ p q : List ℕ} → Begins graph w (n - 1) n last → Started ls fs rs ps k n w last graph p₀ p u → u < n
+    → Put (adjacent ls fs rs ps k n 0 u) w (graph + u * w) p q → Started ls fs rs ps k n w last graph p₀ q (u + 1)
+started-more {ls} {fs} {rs} {ps} {k} {n} {w} {last} {graph} {u} {p₀} {p} {q} B S h P = record {
   upto = omega arith;
   fit = fit-same (S .fit) (P .rest);
-  every = below (P .rest) w spare (omega (arith, S .fit .apart)) ∙ S .every;
+  every = λ l. let i = row-inside u (n - 1) w (omega arith) in above (P .rest) w last (omega (arith, B .here)) ∙ S .every h;
   rows = λ x l. go x l (ℕ-discrete x u);
-  rest = outside-then (S .rest) (let i = row-inside u n w h in outside-wide spare (graph + n * w) (omega (arith, S .fit .apart)) (omega arith) (P .rest));
+  rest = outside-then (S .rest) (let i = row-inside u n w h in outside-wide graph (graph + n * w) (omega arith) (omega arith) (P .rest));
 }
   where
     go : (x : ℕ) → x < u + 1 → Dec (x ≡ u) → rowAt q w graph x ≡ adjacent ls fs rs ps k n 0 x

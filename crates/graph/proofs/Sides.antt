@@ -10,7 +10,8 @@ use borrow.Author.Tests.{eqb-true, ltb-true, eq-eqb}
 use Rattle.sets.specs.Sets.{_∩_, _∖_}
 use Rattle.sets.proofs.Tests.{clash, bool, iff, and-l, and-r}
 use Rattle.sets.proofs.Below.{all-out, any-same}
-use Rattle.sheet.specs.Sheet.{linkFirst, linkCount, freq, ruleA, ruleB, ruleKind, ruleCount, ruleValue, listed, pairFirst, pairSecond, pairOk, rulePairsOk, pairsOk}
+use Rattle.sheet_rows.specs.Rows.{linkFirst, linkCount, freq, ruleA, ruleB, ruleKind, ruleCount, ruleValue, pairFirst, pairSecond}
+use Rattle.sheet.specs.Sheet.{listed, pairOk, rulePairsOk, pairsOk}
 use Rattle.sheet.proofs.Links.{link-in}
 use Rattle.sheet.proofs.Rules.{rule-in}
 use Rattle.rules.specs.Pairs.{distance, samePair, listsPair, agree, allows}

@@ -5,13 +5,13 @@ use mathlib.Core.List.{List}
 use Prim.Native.Nat.{ℕ, _+_, _≤_, _<_}
 use native.Mathlib.Decide.{ℕ-discrete}
 use native.Mathlib.Omega.{arith}
-use lib.Dec.{eqb, ltb, leb}
+use lib.Dec.{eqb, leb}
 use borrow.Author.Tests.{eqb-true, ltb-true, leb-true, eq-eqb, ne-eqb, lt-ltb, le-leb}
-use Rattle.sets.specs.Sets.{Set, _∩_, _∪_, _∖_, nothing, just, whole}
-use Rattle.sets.proofs.Tests.{is-false, iff, and-l, and-r, and-in, or-l, or-r}
-use Rattle.vset.specs.Rows.{setAt, Put}
-use Rattle.vset.proofs.Sets.{join-assoc}
-use Rattle.vset.proofs.Rows.{outside-none, outside-then}
+use Rattle.sets.specs.Sets.{Set, _⊆_, _∩_, _∪_, _∖_, nothing, just, whole}
+use Rattle.sets.proofs.Tests.{clash, is-false, iff, and-l, and-r, and-in, or-l, or-r}
+use Rattle.sets.proofs.Sets.{join-assoc}
+use Rattle.rows.specs.Rows.{setAt, Put}
+use Rattle.rows.proofs.Rows.{outside-none, outside-then}
 use Rattle.graph.specs.Strikes.{stretch}
 
 -- stretches
@@ -76,6 +76,19 @@ cut-cut S A B = fun-ext (λ v. go (S v) (A v) (B v))
     go true true b = refl
     go true false b = refl
     go false a b = refl
+
+-- what is cut and put back in part
+pub cut-back : (S A B : Set) → B ⊆ A → A ⊆ S → (S ∖ A) ∪ B ≡ S ∖ (A ∖ B)
+unfolding _∪_ _∖_
+cut-back S A B f g = fun-ext (λ v. go (S v) (A v) (B v) (f v) (g v))
+  where
+    go : (s a b : Bool) → (b ≡ true → a ≡ true) → (a ≡ true → s ≡ true) → (s && not a) || b ≡ s && not (a && not b)
+    go true true true f g = refl
+    go true true false f g = refl
+    go true false b f g = refl
+    go false true b f g = clash false (g refl) refl
+    go false false true f g = clash false (f refl) refl
+    go false false false f g = refl
 
 pub none-meet : (F : Set) → nothing ∩ F ≡ nothing
 unfolding nothing _∩_

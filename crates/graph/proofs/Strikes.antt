@@ -6,16 +6,19 @@ use Prim.Native.Nat.{ℕ, _+_, _-_, _*_, _≤_, _<_}
 use native.Mathlib.Decide.{ℕ-discrete, decLt}
 use native.Mathlib.Omega.{arith}
 use native.Mathlib.Numerals.{add-one}
-use borrow.Author.Tests.{eq-eqb, ne-eqb}
-use Rattle.sets.specs.Below.{any}
-use Rattle.sets.specs.Sets.{Set, _∩_, _∪_, _∖_, nothing, just}
-use Rattle.sheet.specs.Sheet.{freq}
-use Rattle.vset.specs.Rows.{setAt, rowAt, Outside, Put}
-use Rattle.vset.proofs.Rows.{row-inside, outside-none, outside-then, outside-wide, above, below}
+use borrow.Author.Tests.{eqb-true, eq-eqb, ne-eqb}
+use lib.Dec.{eqb}
+use Rattle.sets.specs.Below.{any, first as lowest}
+use Rattle.sets.specs.Sets.{Set, _⊆_, _∩_, _∪_, _∖_, nothing, just}
+use Rattle.sets.proofs.Tests.{and-r}
+use Rattle.sets.proofs.Below.{first-lt, first-is}
+use Rattle.sets.proofs.Sets.{join-assoc}
+use Rattle.sheet_rows.specs.Rows.{freq}
+use Rattle.rows.specs.Rows.{setAt, rowAt, Outside, Put}
+use Rattle.rows.proofs.Rows.{row-inside, outside-none, outside-then, outside-wide, above, below}
 use Rattle.graph.specs.declared.Side.{Side}
-use Rattle.graph.specs.Rows.{RowsFit}
 use Rattle.graph.specs.Strikes.{stretch, ownPlace, otherPlace, partner, partners, clashing, barred, Struck}
-use Rattle.graph.proofs.Spans.{none-join, cut-none, cut-cut, put-none, put-as, put-then}
+use Rattle.graph.proofs.Spans.{stretch-in, none-join, join-none, cut-back, put-none, put-as, put-then}
 
 -- partners
 
@@ -35,22 +38,39 @@ partners-more : (ps : List ℕ) (turned : Bool) (first x base i : ℕ) → partn
 unfolding partners any _∪_
 partners-more ps turned first x base i = fun-ext (λ v. rw add-one)
 
--- one pair row: its partner is taken from the row, or it has none for x
-pub freed-is : {w to : ℕ} {p q : List ℕ} (ps : List ℕ) (turned : Bool) (first x i : ℕ) → ownPlace ps turned i ≡ x
-    → Put (setAt p w to ∖ just (first + otherPlace ps turned i)) w to p q → Put (setAt p w to ∖ partner ps turned first x i) w to p q
-freed-is {w} {to} {p} ps turned first x i e P = put-as (ap (λ (X : Set). setAt p w to ∖ X) (sym (partner-is ps turned first x i e))) P
+-- one pair row: its partner is added to the row, or it has none for x
+pub partner-put : {w to : ℕ} {p q : List ℕ} (ps : List ℕ) (turned : Bool) (first x i : ℕ) → ownPlace ps turned i ≡ x
+    → Put (setAt p w to ∪ just (first + otherPlace ps turned i)) w to p q → Put (setAt p w to ∪ partner ps turned first x i) w to p q
+partner-put {w} {to} {p} ps turned first x i e P = put-as (ap (λ (X : Set). setAt p w to ∪ X) (sym (partner-is ps turned first x i e))) P
 
-pub freed-no : (w to : ℕ) (p ps : List ℕ) (turned : Bool) (first x i : ℕ) → (ownPlace ps turned i ≡ x → ⊥) → Put (setAt p w to ∖ partner ps turned first x i) w to p p
-freed-no w to p ps turned first x i e = put-as (sym (ap (λ (X : Set). setAt p w to ∖ X) (partner-no ps turned first x i e) ∙ cut-none (setAt p w to))) (put-none w to p)
+pub partner-left : (w to : ℕ) (p ps : List ℕ) (turned : Bool) (first x i : ℕ) → (ownPlace ps turned i ≡ x → ⊥) → Put (setAt p w to ∪ partner ps turned first x i) w to p p
+partner-left w to p ps turned first x i e =
+    put-as (sym (ap (λ (X : Set). setAt p w to ∪ X) (partner-no ps turned first x i e) ∙ join-none (setAt p w to))) (put-none w to p)
 
 -- the loop over the pair rows: none yet, and one more
-pub freed-none : {S : Set} {w to : ℕ} {p q : List ℕ} (ps : List ℕ) (turned : Bool) (first x base : ℕ) → Put S w to p q → Put (S ∖ partners ps turned first x base 0) w to p q
-freed-none {S} ps turned first x base P = put-as (sym (ap (λ (X : Set). S ∖ X) (partners-none ps turned first x base) ∙ cut-none S)) P
+pub partners-put-none : (w to : ℕ) (p ps : List ℕ) (turned : Bool) (first x base : ℕ) → Put (setAt p w to ∪ partners ps turned first x base 0) w to p p
+partners-put-none w to p ps turned first x base =
+    put-as (sym (ap (λ (X : Set). setAt p w to ∪ X) (partners-none ps turned first x base) ∙ join-none (setAt p w to))) (put-none w to p)
 
-pub freed-more : {w to : ℕ} {p q r : List ℕ} (S : Set) (ps : List ℕ) (turned : Bool) (first x base i : ℕ) → Put (S ∖ partners ps turned first x base i) w to p q
-    → Put (setAt q w to ∖ partner ps turned first x (base + i)) w to q r → Put (S ∖ partners ps turned first x base (i + 1)) w to p r
-freed-more S ps turned first x base i P Q = put-then (λ T. T ∖ partner ps turned first x (base + i)) P Q
-    (cut-cut S (partners ps turned first x base i) (partner ps turned first x (base + i)) ∙ ap (λ (X : Set). S ∖ X) (sym (partners-more ps turned first x base i)))
+pub partners-put-more : {w to : ℕ} {p q r : List ℕ} (S : Set) (ps : List ℕ) (turned : Bool) (first x base i : ℕ) → Put (S ∪ partners ps turned first x base i) w to p q
+    → Put (setAt q w to ∪ partner ps turned first x (base + i)) w to q r → Put (S ∪ partners ps turned first x base (i + 1)) w to p r
+partners-put-more S ps turned first x base i P Q = put-then (λ T. T ∪ partner ps turned first x (base + i)) P Q
+    (join-assoc S (partners ps turned first x base i) (partner ps turned first x (base + i)) ∙ ap (λ (X : Set). S ∪ X) (sym (partners-more ps turned first x base i)))
+
+-- partners are vertices of the other link
+pub partners-in : (ps : List ℕ) (turned : Bool) (first x base m end : ℕ) → ((i : ℕ) → i < m → first + otherPlace ps turned (base + i) < end)
+    → partners ps turned first x base m ⊆ stretch first end
+unfolding partners partner
+partners-in ps turned first x base m end h v e =
+    let i = lowest m (λ i. partner ps turned first x (base + i) v) in
+    let l = first-lt m (λ i. partner ps turned first x (base + i) v) e in
+    let q = eqb-true v (first + otherPlace ps turned (base + i)) (and-r (eqb (ownPlace ps turned (base + i)) x) _ (first-is m (λ i. partner ps turned first x (base + i) v) e)) in
+    stretch-in first end v (omega arith) (omega (arith, h i l))
+
+-- the other link's vertices struck, and the partners put back
+pub unlisted-put : {w to : ℕ} {p q r : List ℕ} (A B : Set) → B ⊆ A → A ⊆ setAt p w to → Put (setAt p w to ∖ A) w to p q → Put (setAt q w to ∪ B) w to q r
+    → Put (setAt p w to ∖ (A ∖ B)) w to p r
+unlisted-put {w} {to} {p} A B f g P Q = put-then (λ S. S ∪ B) P Q (cut-back (setAt p w to) A B f g)
 
 -- a stretch put into an empty row
 pub stretch-put : {w to : ℕ} {p q r : List ℕ} (a b : ℕ) → Put nothing w to p q → Put (setAt q w to ∪ stretch a b) w to q r → Put (stretch a b) w to p r
@@ -69,12 +89,12 @@ barred-plain fs ps s u e = rw (ne-eqb (s .kind) 3 e)
 
 -- rows struck one after another
 
-module _ (F : ℕ → Set) (w spare graph n : ℕ) where
-  pub rows-none : (lo : ℕ) (p : List ℕ) → Struck F lo lo w spare graph n p p
+module _ (F : ℕ → Set) (w graph n : ℕ) where
+  pub rows-none : (lo : ℕ) (p : List ℕ) → Struck F lo lo w graph n p p
   rows-none lo p = record { rows = λ x a b. absurd (omega arith); others = λ x l h. refl; rest = outside-none _ _ p }
 
-  pub rows-more : {p q r : List ℕ} (lo u : ℕ) → lo ≤ u → u < n → Struck F lo u w spare graph n p q → Struck F u (u + 1) w spare graph n q r
-      → Struck F lo (u + 1) w spare graph n p r
+  pub rows-more : {p q r : List ℕ} (lo u : ℕ) → lo ≤ u → u < n → Struck F lo u w graph n p q → Struck F u (u + 1) w graph n q r
+      → Struck F lo (u + 1) w graph n p r
   rows-more {p} {q} {r} lo u a b P Q = record {
     rows = λ x l h. go x l h (ℕ-discrete x u);
     others = λ x l h. Q .others x l (λ d e. h (omega arith) e) ∙ P .others x l (λ d e. h d (omega arith));
@@ -86,7 +106,7 @@ module _ (F : ℕ → Set) (w spare graph n : ℕ) where
       go x l h (no e) = Q .others x (omega arith) (λ d g. e (omega arith)) ∙ P .rows x l (omega arith)
 
   -- one row written
-  module _ (u at : ℕ) {len : ℕ} (fit : RowsFit w spare graph n len) (b : u < n) (here : at ≡ graph + u * w) where
+  module _ (u at : ℕ) (b : u < n) (here : at ≡ graph + u * w) where
     others-same : {S : Set} {p q : List ℕ} → Put S w at p q → (x : ℕ) → x < n → (u ≤ x → x < u + 1 → ⊥) → rowAt q w graph x ≡ rowAt p w graph x
     others-same {S} {p} {q} P x l h = go (decLt x u) (decLt u x)
       where
@@ -95,23 +115,12 @@ module _ (F : ℕ → Set) (w spare graph n : ℕ) where
         go (no d) (yes e) = let i = row-inside u x w e in above (P .rest) w (graph + x * w) (omega arith)
         go (no d) (no e) = absurd (h (omega arith) (omega arith))
 
-    row-rest : {S : Set} {p q : List ℕ} → Put S w at p q → Outside spare (graph + n * w) p q
-    row-rest P = let i = row-inside u n w b in let f = fit .apart in outside-wide spare (graph + n * w) (omega arith) (omega arith) (P .rest)
+    row-rest : {S : Set} {p q : List ℕ} → Put S w at p q → Outside graph (graph + n * w) p q
+    row-rest P = let i = row-inside u n w b in outside-wide graph (graph + n * w) (omega arith) (omega arith) (P .rest)
 
-    pub row-struck : {p q : List ℕ} → Put (setAt p w at ∖ F u) w at p q → Struck F u (u + 1) w spare graph n p q
+    pub row-struck : {p q : List ℕ} → Put (setAt p w at ∖ F u) w at p q → Struck F u (u + 1) w graph n p q
     row-struck {p} {q} P = record {
       rows = λ x d e. let i : x ≡ u = omega arith in let P′ : setAt q w (graph + u * w) ≡ setAt p w (graph + u * w) ∖ F u = rw here at (P .here) in rw i P′;
       others = others-same P;
       rest = row-rest P;
     }
-
-    -- with a spare row written before
-    pub row-cut : {S : Set} {p q r : List ℕ} → Put S w spare p q → Put (setAt q w at ∖ setAt q w spare) w at q r → S ≡ F u → Struck F u (u + 1) w spare graph n p r
-    row-cut {S} {p} {q} {r} P Q e = record {
-      rows = λ x d h. X .rows x d h ∙ ap (λ (Y : Set). Y ∖ F x) (above (P .rest) w (graph + x * w) (omega (arith, fit .apart)));
-      others = λ x l h. X .others x l h ∙ above (P .rest) w (graph + x * w) (omega (arith, fit .apart));
-      rest = outside-then (let i = row-inside u n w b in outside-wide spare (graph + n * w) (omega arith) (omega (arith, fit .apart)) (P .rest)) (X .rest);
-    }
-      where
-        X : Struck F u (u + 1) w spare graph n q r
-        X = row-struck (put-as (ap (λ (Y : Set). setAt q w at ∖ Y) (P .here ∙ e)) Q)

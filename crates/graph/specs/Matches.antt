@@ -5,7 +5,8 @@ use mathlib.Core.List.{List}
 use Prim.Native.Nat.{ℕ, _≤_, _<_}
 use lib.ListN.{length}
 use Rattle.sets.specs.Sets.{whole}
-use Rattle.sheet.specs.Sheet.{kOf, nOf, qOf, freq, linkPart, freqPart, rulePart, pairPart}
+use Rattle.sheet_rows.specs.Rows.{freq}
+use Rattle.sheet.specs.Sheet.{kOf, nOf, qOf, linkPart, freqPart, rulePart, pairPart}
 use Rattle.sheet.specs.Refusal.{refusal}
 use Rattle.rules.specs.Plans.{vertexOf, keeps, cellsOf, keepsSheet, checked}
 use Rattle.cliques.specs.Graph.{KClique}

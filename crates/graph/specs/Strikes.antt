@@ -6,10 +6,10 @@ use Prim.Native.Nat.{ℕ, _+_, _-_, _*_, _≤_, _<_}
 use lib.Dec.{ltb, leb, eqb}
 use lib.ListN.{length}
 use Rattle.sets.specs.Below.{any}
-use Rattle.sets.specs.Sets.{Set, _∩_, _∖_}
-use Rattle.sheet.specs.Sheet.{freqBytes, pairBytes, linkFirst, linkCount, freq, ruleKind, ruleCount, ruleValue, pairFirst, pairSecond}
+use Rattle.sets.specs.Sets.{Set, _⊆_, _∩_, _∖_}
+use Rattle.sheet_rows.specs.Rows.{freqBytes, pairBytes, linkFirst, linkCount, freq, ruleKind, ruleCount, ruleValue, pairFirst, pairSecond}
 use Rattle.rules.specs.Pairs.{distance, agree}
-use Rattle.vset.specs.Rows.{rowAt, Outside}
+use Rattle.rows.specs.Rows.{rowAt, Outside}
 use Rattle.graph.specs.declared.Side.{Side}
 
 -- the numbers from a up to b
@@ -64,8 +64,12 @@ pub record SideFits (fs ps : List ℕ) (n : ℕ) (s : Side) : Type 0 where
   pub pairs : s .kind ≡ 3 → (i : ℕ) → i < s .count →
       (pairBytes * (s .value + i) + pairBytes ≤ length ps) × (s .first + otherPlace ps (s .turned) (s .value + i) < s .end)
 
--- from each row x from lo up to hi the set F x is struck, and of the rest only the spare row has changed
-pub record Struck (F : ℕ → Set) (lo hi w spare graph n : ℕ) (p p′ : List ℕ) : Type 0 where
+-- each row of the link that is struck has every vertex of the other link
+pub record Full (s : Side) (w graph : ℕ) (p : List ℕ) : Type 0 where
+  pub row : (u : ℕ) → s .from ≤ u → u < s .upto → stretch (s .first) (s .end) ⊆ rowAt p w graph u
+
+-- from each row x from lo up to hi the set F x is struck, and nothing but the rows has changed
+pub record Struck (F : ℕ → Set) (lo hi w graph n : ℕ) (p p′ : List ℕ) : Type 0 where
   pub rows : (x : ℕ) → lo ≤ x → x < hi → rowAt p′ w graph x ≡ rowAt p w graph x ∖ F x
   pub others : (x : ℕ) → x < n → (lo ≤ x → x < hi → ⊥) → rowAt p′ w graph x ≡ rowAt p w graph x
-  pub rest : Outside spare (graph + n * w) p p′
+  pub rest : Outside graph (graph + n * w) p p′

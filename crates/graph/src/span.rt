@@ -2,10 +2,8 @@
 ghost use Prim.Native.Nat.{_+_, _*_, _≤_};
 ghost use lib.ListN.{length};
 ghost use Rattle.sets.specs.Sets.{_∪_, _∖_};
-ghost use Rattle.vset.specs.Rows.{setAt, Put};
+ghost use Rattle.rows.specs.Rows.{setAt, Put};
 ghost use Rattle.graph.specs.Strikes.{stretch};
-use vset::row::add_to_row;
-use vset::row::take_from_row;
 
 // The vertices from `first` up to `end` are added to row `to`.
 pub fn add_span(part: &mut [u64], w: usize, to: usize, first: usize, end: usize)
@@ -14,7 +12,7 @@ pub fn add_span(part: &mut [u64], w: usize, to: usize, first: usize, end: usize)
 {
     let mut v = first;
     while v < end {
-        add_to_row(part, w, to, v);
+        rows::insert(part, w, to, v);
         v += 1;
     }
 }
@@ -26,7 +24,7 @@ pub fn take_span(part: &mut [u64], w: usize, to: usize, first: usize, end: usize
 {
     let mut v = first;
     while v < end {
-        take_from_row(part, w, to, v);
+        rows::remove(part, w, to, v);
         v += 1;
     }
 }

@@ -2,27 +2,23 @@
 ghost use mathlib.Core.Path.{_≡_};
 ghost use Prim.Native.Nat.{_+_, _-_, _*_, _^_, _<_, _≤_};
 ghost use lib.ListN.{length};
-ghost use Rattle.sets.specs.Sets.{_∩_, _∖_, just};
-ghost use Rattle.sheet.specs.Sheet.{freqBytes, linkBytes, ruleBytes, pairBytes};
-ghost use Rattle.vset.specs.Rows.{setAt, Put};
+ghost use Rattle.sets.specs.Sets.{_⊆_, _∩_, _∪_, _∖_, just};
+ghost use Rattle.sheet_rows.specs.Rows.{freqBytes, linkBytes, ruleBytes, pairBytes};
+ghost use Rattle.rows.specs.Rows.{setAt, rowAt, Put};
 ghost use Rattle.graph.specs.Rows.{RowsFit};
-ghost use Rattle.graph.specs.Strikes.{stretch, sideOf, ownPlace, otherPlace, partner, partners, clashing, barred, SideFits, Struck};
+ghost use Rattle.graph.specs.Strikes.{stretch, sideOf, ownPlace, otherPlace, partner, partners, clashing, barred, SideFits, Full, Struck};
 use crate::Side;
-use crate::span::add_span;
-use rules::pairs::agree;
-use rules::pairs::distance;
-use sheet::rows::freq;
-use sheet::rows::link_count;
-use sheet::rows::link_first;
-use sheet::rows::pair_first;
-use sheet::rows::pair_second;
-use sheet::rows::rule_count;
-use sheet::rows::rule_kind;
-use sheet::rows::rule_value;
-use vset::row::clear_row;
-use vset::row::cut_rows;
-use vset::row::row_at;
-use vset::row::take_from_row;
+use crate::span::take_span;
+use rules::agree;
+use rules::distance;
+use sheet_rows::freq;
+use sheet_rows::link_count;
+use sheet_rows::link_first;
+use sheet_rows::pair_first;
+use sheet_rows::pair_second;
+use sheet_rows::rule_count;
+use sheet_rows::rule_kind;
+use sheet_rows::rule_value;
 
 // Rule row j seen from its link a to its link b.
 pub fn side(ls: &[u8], rs: &[u8], j: usize, turned: bool, a: usize, b: usize) -> Side
@@ -60,7 +56,7 @@ fn strike_one(
     if agree(kind, value, distance(x, freq(fs, v)), false) {
         return;
     }
-    take_from_row(part, w, to, v);
+    rows::remove(part, w, to, v);
 }
 
 // The vertices from `first` up to `end` that a rule of kind 1 or 2 does not allow with the frequency x are struck from row `to`.
@@ -107,8 +103,8 @@ fn other_place(ps: &[u8], turned: bool, i: usize) -> usize
     pair_second(ps, i)
 }
 
-// The partner of position x by pair row i, if it has one there, is taken from row `to`.
-fn free_partner(
+// The partner of position x by pair row i, if it has one there, is added to row `to`.
+fn add_partner(
     part: &mut [u64],
     w: usize,
     to: usize,
@@ -119,16 +115,16 @@ fn free_partner(
     i: usize,
 )
     requires { ⌜ (to + w ≤ length (now part)) × (pairBytes * i + pairBytes ≤ length (now ps)) × (first + otherPlace (now ps) turned i < 64 * w) × (64 * w < 2 ^ 64) ⌝ }
-    ensures { λ r. ⌜ Put (setAt (now (part .entry)) w to ∖ partner (now (ps .entry)) turned first x i) w to (now (part .entry)) (now (part .exit)) ⌝ }
+    ensures { λ r. ⌜ Put (setAt (now (part .entry)) w to ∪ partner (now (ps .entry)) turned first x i) w to (now (part .entry)) (now (part .exit)) ⌝ }
 {
     if own_place(ps, turned, i) != x {
         return;
     }
-    take_from_row(part, w, to, first + other_place(ps, turned, i));
+    rows::insert(part, w, to, first + other_place(ps, turned, i));
 }
 
-// Row `to` becomes the vertices of the other link that no pair row of the rule, of kind 3, gives position x as a partner.
-fn mark_unlisted(
+// Row `to` has every vertex of the other link; those are struck that no pair row of the rule, of kind 3, gives position x as a partner.
+fn strike_unlisted(
     part: &mut [u64],
     w: usize,
     to: usize,
@@ -138,28 +134,26 @@ fn mark_unlisted(
     s: Side,
     x: usize,
 )
-    requires { ⌜ SideFits (now fs) (now ps) n s × (s .kind ≡ 3) × (n ≤ 64 * w) × (64 * w < 2 ^ 64) × (to + w ≤ length (now part)) ⌝ }
-    ensures { λ r. ⌜ Put (stretch (s .first) (s .end) ∖ partners (now (ps .entry)) (s .turned) (s .first) x (s .value) (s .count)) w to (now (part .entry)) (now (part .exit)) ⌝ }
+    requires { ⌜ SideFits (now fs) (now ps) n s × (s .kind ≡ 3) × (n ≤ 64 * w) × (64 * w < 2 ^ 64) × (to + w ≤ length (now part)) × (stretch (s .first) (s .end) ⊆ setAt (now part) w to) ⌝ }
+    ensures { λ r. ⌜ Put (setAt (now (part .entry)) w to ∖ (stretch (s .first) (s .end) ∖ partners (now (ps .entry)) (s .turned) (s .first) x (s .value) (s .count))) w to (now (part .entry)) (now (part .exit)) ⌝ }
 {
     let value = s.value;
     let count = s.count;
     let turned = s.turned;
     let first = s.first;
     let end = s.end;
-    clear_row(part, w, to);
-    add_span(part, w, to, first, end);
+    take_span(part, w, to, first, end);
     let mut i = 0;
     while i < count {
-        free_partner(part, w, to, ps, turned, first, x, value + i);
+        add_partner(part, w, to, ps, turned, first, x, value + i);
         i += 1;
     }
 }
 
-// Row u is struck: a rule of kind 3 by its pairs, with the spare row, any other by the frequencies.
+// Row u is struck: a rule of kind 3 by its pairs, any other by the frequencies.
 fn strike_row(
     part: &mut [u64],
     w: usize,
-    spare: usize,
     graph: usize,
     n: usize,
     fs: &[u8],
@@ -167,14 +161,13 @@ fn strike_row(
     s: Side,
     u: usize,
 )
-    requires { ⌜ SideFits (now fs) (now ps) n s × RowsFit w spare graph n (length (now part)) × (s .from ≤ u) × (u < n) ⌝ }
-    ensures { λ r. ⌜ Struck (barred (now (fs .entry)) (now (ps .entry)) s) u (u + 1) w spare graph n (now (part .entry)) (now (part .exit)) ⌝ }
+    requires { ⌜ SideFits (now fs) (now ps) n s × RowsFit w graph n (length (now part)) × (s .from ≤ u) × (u < n) × (stretch (s .first) (s .end) ⊆ rowAt (now part) w graph u) ⌝ }
+    ensures { λ r. ⌜ Struck (barred (now (fs .entry)) (now (ps .entry)) s) u (u + 1) w graph n (now (part .entry)) (now (part .exit)) ⌝ }
 {
-    let row = row_at(graph, w, u, n);
+    let row = rows::row_at(graph, w, u, n);
     let kind = s.kind;
     if kind == 3 {
-        mark_unlisted(part, w, spare, fs, ps, n, s, u - s.from);
-        cut_rows(part, w, row, row, spare);
+        strike_unlisted(part, w, row, fs, ps, n, s, u - s.from);
         return;
     }
     strike_near(part, w, row, fs, kind, s.value, freq(fs, u), s.first, s.end);
@@ -184,19 +177,18 @@ fn strike_row(
 pub fn strike_side(
     part: &mut [u64],
     w: usize,
-    spare: usize,
     graph: usize,
     n: usize,
     fs: &[u8],
     ps: &[u8],
     s: Side,
 )
-    requires { ⌜ SideFits (now fs) (now ps) n s × RowsFit w spare graph n (length (now part)) × (s .from ≤ s .upto) ⌝ }
-    ensures { λ r. ⌜ Struck (barred (now (fs .entry)) (now (ps .entry)) s) (s .from) (s .upto) w spare graph n (now (part .entry)) (now (part .exit)) ⌝ }
+    requires { ⌜ SideFits (now fs) (now ps) n s × RowsFit w graph n (length (now part)) × (s .from ≤ s .upto) × Full s w graph (now part) ⌝ }
+    ensures { λ r. ⌜ Struck (barred (now (fs .entry)) (now (ps .entry)) s) (s .from) (s .upto) w graph n (now (part .entry)) (now (part .exit)) ⌝ }
 {
     let mut u = s.from;
     while u < s.upto {
-        strike_row(part, w, spare, graph, n, fs, ps, s, u);
+        strike_row(part, w, graph, n, fs, ps, s, u);
         u += 1;
     }
 }

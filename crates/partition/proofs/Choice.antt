@@ -9,7 +9,7 @@ use lib.ListN.{length, take}
 use lib.Seq.{take-all}
 use borrow.Author.Tests.{eqb-true, eqb-false, ne-eqb}
 use Rattle.sets.proofs.Tests.{bool}
-use Rattle.sheet.specs.Sheet.{linkFirst}
+use Rattle.sheet_rows.specs.Rows.{linkFirst}
 use Rattle.rules.specs.Layers.{layerOf}
 use Rattle.partition.specs.Partition.{built, classes}
 use Rattle.partition.specs.Choice.{classList}

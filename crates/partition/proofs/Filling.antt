@@ -14,8 +14,8 @@ use Rattle.sets.specs.Sets.{Set, _∪_, just, nothing}
 use Rattle.sets.proofs.Tests.{is-false, and-l, and-r, and-in, and-false}
 use Rattle.sets.proofs.Below.{loop-none, loop-more, loop-keeps}
 use Rattle.sets.proofs.Lists.{length-tabulate, getD-tabulate}
-use Rattle.vset.specs.Rows.{setAt, Outside, Put}
-use Rattle.vset.proofs.Rows.{row-length, outside-none, outside-then, outside-wide}
+use Rattle.rows.specs.Rows.{setAt, Outside, Put}
+use Rattle.rows.proofs.Rows.{row-length, outside-none, outside-then, outside-wide}
 use Rattle.partition.specs.Partition.{classOf, byDegree, free, join, fill, greedy, placed, built}
 use Rattle.partition.specs.Words.{Rows, members, Space, Ordered, Counted, Sorted, Joined, Filled, AllFilled, Kept, Built}
 use Rattle.partition.proofs.Members.{members-set, rows-stay}

@@ -2,18 +2,18 @@
 use mathlib.Core.Path.{_≡_, refl, sym, ap, _∙_, fun-ext}
 use mathlib.Core.Bool.{Bool, true, false, cond, _&&_, _||_}
 use mathlib.Core.List.{List}
-use Prim.Native.Nat.{ℕ, _+_, _*_, _/_, _%_, _≤_, _<_}
+use Prim.Native.Nat.{ℕ, _+_, _*_, _≤_, _<_}
 use native.Mathlib.Decide.{ℕ-discrete, decLt}
 use native.Mathlib.Omega.{arith}
 use lib.Dec.{eqb, ltb}
-use lib.ListN.{length, set, drop}
-use lib.Seq.{getD-set-same, getD-set-other, getD-take, getD-drop}
+use lib.ListN.{length, set}
+use lib.Seq.{getD-set-same, getD-set-other}
 use borrow.Author.Tests.{eqb-true, eqb-false, eq-eqb, ne-eqb, lt-ltb, le-ltb, ltb-true, ltb-false}
 use Rattle.sets.specs.Sets.{Set, _∩_, _∪_, just, nothing}
 use Rattle.sets.proofs.Tests.{clash, bool, is-false, and-l, and-r, and-in, or-r}
-use Rattle.vset.specs.Words.{has, Emptiness}
-use Rattle.vset.specs.Rows.{setAt, rowAt, Outside, Begins, Put}
-use Rattle.vset.proofs.Rows.{row-inside, set-past, above, below, outside-then, outside-wide, outside-none}
+use Rattle.vset.specs.Words.{Emptiness}
+use Rattle.rows.specs.Rows.{setAt, rowAt, Outside, Begins, Put}
+use Rattle.rows.proofs.Rows.{row-inside, inner-row, set-past, above, below, outside-then, outside-wide, outside-none}
 use Rattle.partition.specs.Partition.{classOf, free}
 use Rattle.partition.specs.Words.{Rows, members, Masks, Marked}
 use Rattle.partition.proofs.Partition.{free-in, free-out}
@@ -90,15 +90,6 @@ free-is {adj} {w} {graph} {n} {a} {p} {S} {r} k c cls v h q R e E = bool r (λ t
         let a = and-l (ltb u n && adj v u) _ z in
         let b = and-r (ltb u n && adj v u) (ltb u n && eqb (classOf cls u) c) z in
         clash (adj v u) (and-r (ltb u n) _ a) (free-out n k adj c cls v f u (ltb-true u n (and-l (ltb u n) _ a)) (eqb-true _ _ (and-r (ltb u n) _ b)))
-
--- a row inside a wider row
-pub inner-row : (p : List ℕ) (w wide at a v : ℕ) → a + w ≤ wide → v < 64 * w → setAt p w (at + a) v ≡ setAt p wide at (64 * a + v)
-unfolding setAt has
-inner-row p w wide at a v h l =
-    let d : (64 * a + v) / 64 ≡ a + v / 64 = omega arith in
-    let m : (64 * a + v) % 64 ≡ v % 64 = omega arith in
-    let q : at + a + v / 64 ≡ at + (a + v / 64) = omega arith in
-    rw (d, m, getD-take w (drop (at + a) p) (v / 64) 0 (omega arith), getD-drop, getD-take wide (drop at p) (a + v / 64) 0 (omega arith), getD-drop, q)
 
 -- the masks of k classes: none marked, one vertex more
 

@@ -9,8 +9,8 @@ use borrow.Author.Tests.{eq-eqb, ne-eqb}
 use Rattle.sets.specs.Below.{all}
 use Rattle.vset.specs.Words.{Emptiness}
 use Rattle.sets.specs.Sets.{_∩_}
-use Rattle.vset.specs.Rows.{setAt, Begins}
-use Rattle.vset.proofs.Rows.{outside-none}
+use Rattle.rows.specs.Rows.{setAt, Begins}
+use Rattle.rows.proofs.Rows.{outside-none}
 use Rattle.partition.specs.Partition.{classOf, placed, isPartition}
 use Rattle.partition.specs.Words.{Masks, Alone, AllAlone, Tested}
 use Rattle.partition.proofs.Members.{free-is, rows-stay}

@@ -7,7 +7,7 @@ use lib.Dec.{ltb, leb, eqb}
 use lib.ListN.{length, getD, take, drop}
 use Rattle.sets.specs.Below.{all, count}
 use Rattle.sets.specs.Sets.{Set, _∪_, just, nothing}
-use Rattle.vset.specs.Rows.{setAt, rowAt, Outside}
+use Rattle.rows.specs.Rows.{setAt, rowAt, Outside}
 use Rattle.partition.specs.Partition.{classOf, degree, addDegree, byDegree, free, join, fill, greedy, built, isPartition}
 
 -- n rows of w words from `graph` on hold the adjacency: row u has the neighbours of u among n vertices, and nothing else

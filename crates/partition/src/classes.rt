@@ -6,22 +6,18 @@ ghost use lib.Dec.{ltb};
 ghost use lib.ListN.{length, getD, set, replicate};
 ghost use Rattle.sets.specs.Below.{all, tabulate};
 ghost use Rattle.sets.specs.Sets.{_∪_, just};
-ghost use Rattle.vset.specs.Rows.{setAt, Put};
+ghost use Rattle.rows.specs.Rows.{setAt, Put};
 ghost use Rattle.partition.specs.Partition.{classOf};
 ghost use Rattle.partition.specs.Words.{Space, Joined, Filled, AllFilled, Kept, Built};
 use super::degrees::put_degrees;
 use super::degrees::put_order;
-use vset::row::add_to_row;
-use vset::row::clear_row;
-use vset::row::no_common_rows;
-use vset::row::row_at;
 
 // Class c takes v: v is added to the class's row, at `own`, and its class is c.
 fn take_in(part: &mut [u64], w: usize, own: usize, c: usize, v: usize, cls: &mut [u8])
     requires { ⌜ (own + w ≤ length (now part)) × (v < 64 * w) × (v < length (now cls)) × (c < 256) ⌝ }
     ensures { λ _. ⌜ Put (setAt (now (part .entry)) w own ∪ just v) w own (now (part .entry)) (now (part .exit)) × (now (cls .exit) ≡ set (now (cls .entry)) v c) ⌝ }
 {
-    add_to_row(part, w, own, v);
+    rows::insert(part, w, own, v);
     cls[v] = c as u8;
 }
 
@@ -45,9 +41,9 @@ fn try_join(
     if cls[v] as usize != k {
         return;
     }
-    let a = row_at(graph, w, v, n);
+    let a = rows::row_at(graph, w, v, n);
     let own = n + n;
-    if !no_common_rows(part, w, a, own) {
+    if !rows::is_empty_common(part, w, a, own) {
         return;
     }
     take_in(part, w, own, c, v, cls);
@@ -67,7 +63,7 @@ fn fill_class(
     requires { ⌜ Space w graph n (length (now part)) × (length (now cls) ≡ n) × (m ≤ n) × (c < 256) ⌝ }
     ensures { λ _. ⌜ Filled w graph n k m c (now (part .entry)) (now (part .exit)) (now (cls .entry)) (now (cls .exit)) ⌝ }
 {
-    clear_row(part, w, n + n);
+    rows::clear(part, w, n + n);
     let mut i = 0;
     while i < m {
         let v = part[n + i] as usize;

@@ -1,8 +1,8 @@
 // The working partition: a class for each of n vertices, below k, and no two adjacent vertices in a class.
 // The contracts cite specs/Partition.antt, the classes of each choice, and specs/Words.antt, how graph and classes stand in words.
-pub mod classes;
-pub mod degrees;
-pub mod masks;
+mod classes;
+mod degrees;
+mod masks;
 
 ghost use mathlib.Core.Path.{_≡_};
 ghost use mathlib.Core.Bool.{true};
@@ -10,14 +10,14 @@ ghost use Prim.Native.Nat.{_+_, _*_, _<_, _≤_};
 ghost use lib.Dec.{ltb};
 ghost use lib.ListN.{length};
 ghost use Rattle.sets.specs.Below.{all};
-ghost use Rattle.sheet.specs.Sheet.{linkBytes};
+ghost use Rattle.sheet_rows.specs.Rows.{linkBytes};
 ghost use Rattle.rules.specs.Layers.{layerOf};
 ghost use Rattle.partition.specs.Partition.{classOf, layersOf};
 ghost use Rattle.partition.specs.Choice.{classList};
 ghost use Rattle.partition.specs.Words.{Alone, AllAlone, Tested};
-use rules::layers::layer;
-use vset::row::no_common_rows;
-use vset::row::row_at;
+pub use classes::build_classes;
+pub use masks::put_masks;
+use rules::layer;
 
 // Choice 0: the class of a vertex is its layer, among k links.
 pub fn put_layers(ls: &[u8], n: usize, k: usize, cls: &mut [u8])
@@ -46,9 +46,9 @@ fn is_alone(
     requires { ⌜ (masks + k * w ≤ length (now part)) × (graph + n * w ≤ length (now part)) × (n ≤ length (now cls)) × (v < n) × (classOf (now cls) v < k) ⌝ }
     ensures { λ r. ⌜ Alone w masks graph n k (now (cls .entry)) (now (part .entry)) v r ⌝ }
 {
-    let a = row_at(graph, w, v, n);
-    let b = row_at(masks, w, cls[v] as usize, k);
-    no_common_rows(part, w, a, b)
+    let a = rows::row_at(graph, w, v, n);
+    let b = rows::row_at(masks, w, cls[v] as usize, k);
+    rows::is_empty_common(part, w, a, b)
 }
 
 // Whether each of n vertices is adjacent to none of its class.

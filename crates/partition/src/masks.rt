@@ -2,9 +2,6 @@
 ghost use Prim.Native.Nat.{_+_, _*_, _<_, _≤_};
 ghost use lib.ListN.{length};
 ghost use Rattle.partition.specs.Words.{Masks, Marked};
-use vset::row::add_to_row;
-use vset::row::clear_row;
-use vset::row::row_at;
 
 // Vertex v is added to the mask of class c, if c is below k.
 fn add_member(c: usize, v: usize, k: usize, w: usize, at: usize, part: &mut [u64])
@@ -14,8 +11,8 @@ fn add_member(c: usize, v: usize, k: usize, w: usize, at: usize, part: &mut [u64
     if c >= k {
         return;
     }
-    let to = row_at(at, w, c, k);
-    add_to_row(part, w, to, v);
+    let to = rows::row_at(at, w, c, k);
+    rows::insert(part, w, to, v);
 }
 
 // The masks of k classes of n vertices are written, row after row from `at` on.
@@ -23,7 +20,7 @@ pub fn put_masks(cls: &[u8], n: usize, k: usize, w: usize, at: usize, part: &mut
     requires { ⌜ (n ≤ length (now cls)) × (at + k * w ≤ length (now part)) × (n ≤ 64 * w) ⌝ }
     ensures { λ _. ⌜ Masks n k (now (cls .entry)) w at (now (part .entry)) (now (part .exit)) ⌝ }
 {
-    clear_row(part, k * w, at);
+    rows::clear(part, k * w, at);
     let mut v = 0;
     while v < n {
         add_member(cls[v] as usize, v, k, w, at, part);

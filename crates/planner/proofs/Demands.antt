@@ -9,7 +9,8 @@ use lib.ListN.{getD, replicate}
 use borrow.Author.Tests.{ne-eqb, lt-ltb}
 use Rattle.sets.specs.Sets.{Set, whole}
 use Rattle.sets.proofs.Lists.{getD-tabulate}
-use Rattle.sheet.specs.Sheet.{kOf, nOf, freq, freqPart}
+use Rattle.sheet_rows.specs.Rows.{freq}
+use Rattle.sheet.specs.Sheet.{kOf, nOf, freqPart}
 use Rattle.sheet.specs.Refusal.{refusal}
 use Rattle.rules.specs.Plans.{cellsOf}
 use Rattle.cliques.specs.Graph.{Graph, Clique, KClique, layered, Layers}

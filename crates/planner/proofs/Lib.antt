@@ -3,8 +3,9 @@ pub mod Zeros
 pub mod Links
 pub mod Sections
 pub mod Tellings
-pub mod Cases
 pub mod Accepted
 pub mod Answers
 pub mod Demands
+pub mod Found
+pub mod CallDemands
 pub mod Outcomes

@@ -9,7 +9,8 @@ use native.Mathlib.Omega.{arith}
 use lib.Dec.{eqb, leb, ltb}
 use borrow.Author.Tests.{ltb-true, ltb-false, lt-ltb, le-ltb, le-leb, lt-leb, eq-eqb, eqb-true}
 use Rattle.sets.proofs.Tests.{iff, bool}
-use Rattle.sheet.specs.Sheet.{linksOk, linkFirst, linkCount, freq}
+use Rattle.sheet_rows.specs.Rows.{linkFirst, linkCount, freq}
+use Rattle.sheet.specs.Sheet.{linksOk}
 use Rattle.cliques.specs.Listing.{byLayer}
 use Rattle.rules.specs.Layers.{layerOf}
 use Rattle.rules.proofs.Laws.{link-test}

@@ -12,8 +12,8 @@ use borrow.Author.Tests.{eq-eqb, ne-eqb, eqb-true, lt-ltb, ltb-true, ltb-false, 
 use Rattle.sets.specs.Sets.{Set, _∪_, whole, just, nothing}
 use Rattle.sets.proofs.Tests.{clash, bool, is-false, iff, and-in, and-r, not-out, or-l, or-r, or-case}
 use Rattle.sets.proofs.Lists.{length-tabulate, getD-tabulate}
-use Rattle.vset.specs.Rows.{setAt, rowAt, Outside, Put}
-use Rattle.vset.proofs.Rows.{above, below, row-inside}
+use Rattle.rows.specs.Rows.{setAt, rowAt, Outside, Put}
+use Rattle.rows.proofs.Rows.{above, below, row-inside}
 use Rattle.cliques.specs.Graph.{Graph, Layers, layered}
 use Rattle.cliques.specs.Words.{Held, Remains, Node}
 use Rattle.rules.specs.Layers.{layerOf}
@@ -133,7 +133,7 @@ rows-still x w at m h S R u l = above x w (at + u * w) (omega arith) ∙ R u l
 
 module _ {ls fs rs ps : List ℕ} {k n q t : ℕ} (P : Parts ls fs rs ps k n q t) {w masks layers graph len : ℕ} (O : LaidOut w masks layers graph n k len) where
   -- the rows, then the list of the layers and their masks
-  pub rows-put : {p p₁ p₂ cls : List ℕ} → Built ls fs rs ps k n q w (graph - w) graph p p₁ → cls ≡ layersOf n (layerOf ls k) → Masks n k cls w layers p₁ p₂
+  pub rows-put : {p p₁ p₂ cls : List ℕ} → Built ls fs rs ps k n q w graph p p₁ → cls ≡ layersOf n (layerOf ls k) → Masks n k cls w layers p₁ p₂
       → RowsPut ls fs rs ps k n q w layers graph p₂ cls
   rows-put {cls = cls} B e M = record {
     rows = rows-still (M .rest) w graph n (let a = O .after-layers in omega arith) (adjacent ls fs rs ps k n q) (B .rows);

@@ -6,14 +6,14 @@ use Prim.Native.Nat.{ℕ, _+_, _-_, _*_, _≤_, _<_}
 use native.Mathlib.Omega.{arith}
 use lib.Dec.{eqb, leb, ltb}
 use borrow.Author.Tests.{ltb-true, not-true, not-false}
-use Rattle.sheet.specs.Sheet.{freq}
+use Rattle.sheet_rows.specs.Rows.{freq}
 use lib.ListN.{length}
 use Rattle.sets.specs.Below.{any, tabulate}
 use Rattle.sets.specs.Sets.{Set, whole}
 use Rattle.sets.proofs.Tests.{bool, case}
 use Rattle.sets.proofs.Below.{any-same}
 use Rattle.sets.proofs.Lists.{tabulate-same}
-use Rattle.vset.specs.Rows.{setAt}
+use Rattle.rows.specs.Rows.{setAt}
 use Rattle.cliques.specs.Graph.{Graph, Clique, layered}
 use Rattle.cliques.specs.Listing.{byLayer}
 use Rattle.cliques.specs.Words.{Node, Room}

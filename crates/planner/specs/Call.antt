@@ -6,7 +6,8 @@ use Prim.Native.Nat.{ℕ, _+_, _*_, _^_, _≤_, _<_}
 use lib.Dec.{ltb, eqb}
 use lib.ListN.{length, getD, replicate}
 use Rattle.sets.specs.Below.{any, tabulate}
-use Rattle.sheet.specs.Sheet.{freq, linksOk}
+use Rattle.sheet_rows.specs.Rows.{freq}
+use Rattle.sheet.specs.Sheet.{linksOk}
 use Rattle.rules.specs.Layers.{layerOf}
 use Rattle.cliques.specs.Listing.{byLayer}
 
@@ -18,7 +19,6 @@ zeroCells m = replicate m 0
 pub record LaidOut (w masks layers graph n k len : ℕ) : Type 0 where
   pub wide : n ≤ 64 * w
   pub small : 64 * w < 2 ^ 64
-  pub some : w ≤ graph
   pub deep : k * w + (w + w + w + w) ≤ masks
   pub after-masks : masks + k * w ≡ layers
   pub after-layers : layers + k * w ≡ graph

@@ -5,7 +5,7 @@ use mathlib.Core.List.{List}
 use Prim.Native.Nat.{ℕ, _+_, _*_, _<_}
 use lib.Dec.{eqb}
 use Rattle.sets.specs.Sets.{whole}
-use Rattle.vset.specs.Rows.{setAt, rowAt, Outside}
+use Rattle.rows.specs.Rows.{setAt, rowAt, Outside}
 use Rattle.cliques.specs.Graph.{Graph}
 use Rattle.cliques.specs.Words.{Node}
 use Rattle.rules.specs.Layers.{layerOf}

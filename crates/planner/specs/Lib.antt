@@ -4,5 +4,4 @@ pub mod Filled
 pub mod Planned
 pub mod Text
 pub mod Demands
-pub mod Encode
-pub mod Cases
+pub mod CallDemands

@@ -6,7 +6,8 @@ use lib.Dec.{ltb, leb, eqb}
 use lib.ListN.{replicate}
 use Rattle.sets.specs.Below.{tabulate}
 use Rattle.sets.specs.Sets.{whole}
-use Rattle.sheet.specs.Sheet.{kOf, nOf, freq, freqPart}
+use Rattle.sheet_rows.specs.Rows.{freq}
+use Rattle.sheet.specs.Sheet.{kOf, nOf, freqPart}
 use Rattle.sheet.specs.Refusal.{refusal, passing, unless}
 use Rattle.cliques.specs.Graph.{Graph}
 use Rattle.cliques.specs.Listing.{byLayer}

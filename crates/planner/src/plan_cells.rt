@@ -8,9 +8,9 @@ ghost use Rattle.sets.specs.Below.{any, first};
 ghost use Rattle.sheet.specs.Sheet.{linksOk};
 ghost use Rattle.rules.specs.Layers.{layerOf};
 ghost use Rattle.planner.specs.Call.{zeroCells, chosenBy, cellsBy, Chosen};
-use sheet::rows::freq;
-use sheet::rows::link_count;
-use sheet::rows::link_first;
+use sheet_rows::freq;
+use sheet_rows::link_count;
+use sheet_rows::link_first;
 
 fn wide(v: u32) -> usize
     ensures { λ r. ⌜ r ≡ v ⌝ }

@@ -3,20 +3,18 @@ ghost use mathlib.Core.Path.{_≡_};
 ghost use Prim.Native.Nat.{_+_, _*_, _<_, _≤_};
 ghost use lib.ListN.{length};
 ghost use Rattle.sets.specs.Sets.{whole};
-ghost use Rattle.vset.specs.Rows.{Put};
+ghost use Rattle.rows.specs.Rows.{Put};
 ghost use Rattle.rules.specs.Parts.{Parts};
 ghost use Rattle.partition.specs.Choice.{classList};
 ghost use Rattle.partition.specs.Words.{Masks, Space};
 ghost use Rattle.planner.specs.Call.{LaidOut};
 ghost use Rattle.planner.specs.Filled.{RowsPut, ListChecked, ListBuilt, Filled};
 use graph::build_rows;
+use partition::build_classes;
 use partition::class_list;
-use partition::classes::build_classes;
 use partition::is_partition;
-use partition::masks::put_masks;
 use partition::put_layers;
-use vset::row::add_to_row;
-use vset::row::clear_row;
+use partition::put_masks;
 
 // The rows of the graph, the list of the layers and their masks.
 fn put_rows(
@@ -105,10 +103,10 @@ fn put_root(work: &mut [u64], w: usize, n: usize)
     requires { ⌜ (w ≤ length (now work)) × (n ≤ 64 * w) ⌝ }
     ensures { λ _. ⌜ Put (whole n) w 0 (now (work .entry)) (now (work .exit)) ⌝ }
 {
-    clear_row(work, w, 0);
+    rows::clear(work, w, 0);
     let mut v = 0;
     while v < n {
-        add_to_row(work, w, 0, v);
+        rows::insert(work, w, 0, v);
         v += 1;
     }
 }

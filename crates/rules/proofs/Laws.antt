@@ -1,17 +1,18 @@
 -- Laws of layers, of the sections of an accepted sheet, of the pair test and of the vertex of a frequency.
 use Prim.Native.Nat.{ℕ, zero, suc, _+_, _*_, _≤_, _<_}
-use mathlib.Core.Path.{_≡_, refl, sym, _∙_}
+use mathlib.Core.Path.{_≡_, sym, _∙_}
 use mathlib.Core.List.{List}
-use mathlib.Core.Bool.{Bool, true, false, not, _&&_}
+use mathlib.Core.Bool.{Bool, true, _&&_}
 use native.Mathlib.Numerals.{add-one}
 use native.Mathlib.Omega.{arith}
 use lib.ListN.{length, length-drop}
 use lib.Dec.{eqb, ltb, leb}
-use borrow.Author.Tests.{eqb-true, ltb-true, leb-true, leb-false, eq-eqb, ne-eqb, lt-ltb, le-ltb, le-leb, lt-leb}
-use Rattle.sets.specs.Below.{all, any, first, sumTo}
+use borrow.Author.Tests.{eqb-true, ltb-true, leb-true, leb-false, eq-eqb, ne-eqb, lt-ltb, le-leb, lt-leb}
+use Rattle.sets.specs.Below.{all, sumTo}
 use Rattle.sets.proofs.Tests.{bool, iff, and-l, and-r, and-in, below}
-use Rattle.sets.proofs.Below.{all-out, first-lt, first-none, sum-in}
-use Rattle.sheet.specs.Sheet.{linkFirst, linkCount, linksOk, freq, ruleA, ruleB, ruleKind, ruleCount, ruleValue, listed}
+use Rattle.sets.proofs.Below.{all-out, first-any, sum-in}
+use Rattle.sheet_rows.specs.Rows.{linkFirst, linkCount, freq, ruleA, ruleB, ruleKind, ruleCount, ruleValue}
+use Rattle.sheet.specs.Sheet.{linksOk, listed}
 use Rattle.sheet.specs.Sheet.{kOf, nOf, qOf, tOf, linkPart, freqPart, rulePart, pairPart}
 use Rattle.sheet.specs.Accepted.{Accepted}
 use Rattle.sheet.proofs.Links.{link-first, link-sum, link-in}
@@ -73,14 +74,14 @@ layer-down p l m v q h = rw (q, add-one, lt-leb (linkFirst p m) v h)
 pub parts-of : (s : List ℕ) → Accepted s → Parts (linkPart s) (freqPart s) (rulePart s) (pairPart s) (kOf s) (nOf s) (qOf s) (tOf s)
 parts-of s a =
     record {
-      k-some = a .k-some;
-      k-small = a .k-small;
-      n-some = a .n-some;
-      n-small = a .n-small;
-      link-rows = simp length-drop (omega (arith, a .whole));
-      freq-rows = simp length-drop (omega (arith, a .whole));
-      rule-rows = simp length-drop (omega (arith, a .whole));
-      pair-rows = simp length-drop (omega (arith, a .whole));
+      k-some = a .head .k-some;
+      k-small = a .head .k-small;
+      n-some = a .head .n-some;
+      n-small = a .head .n-small;
+      link-rows = simp length-drop (omega (arith, a .head .whole));
+      freq-rows = simp length-drop (omega (arith, a .head .whole));
+      rule-rows = simp length-drop (omega (arith, a .head .whole));
+      pair-rows = simp length-drop (omega (arith, a .head .whole));
       links = a .links;
       freqs = a .freqs;
       rules = a .rules;
@@ -157,11 +158,6 @@ unfolding agree
 agree-plain kind value d l m h = rw (ne-eqb kind 3 h)
 
 -- the vertex of a frequency
-
--- the first number that passes is below the bound just where some number passes
-pub first-any : (m : ℕ) (p : ℕ → Bool) → ltb (first m p) m ≡ any m p
-first-any m p = bool (any m p) (λ e. lt-ltb _ _ (first-lt m p e) ∙ sym e)
-    (λ e. rw (first-none m p e) (le-ltb m m (omega arith)) ∙ sym e)
 
 pub has-freq-is : (ls fs : List ℕ) (l x : ℕ) → ltb (placeOf fs (linkFirst ls l) (linkCount ls l) x) (linkCount ls l) ≡ hasFreq ls fs l x
 unfolding placeOf hasFreq

@@ -3,7 +3,7 @@ use Prim.Native.Nat.{ℕ, zero, suc, _+_, _≤_, _<_}
 use mathlib.Core.List.{List}
 use mathlib.Core.Bool.{cond}
 use lib.Dec.{leb}
-use Rattle.sheet.specs.Sheet.{linkFirst, linkCount}
+use Rattle.sheet_rows.specs.Rows.{linkFirst, linkCount}
 
 -- v is a vertex of link l
 pub record InLink (p : List ℕ) (l v : ℕ) : Type 0 where

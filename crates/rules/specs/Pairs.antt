@@ -4,7 +4,7 @@ use mathlib.Core.List.{List}
 use mathlib.Core.Bool.{Bool, not, cond, _&&_, _||_}
 use lib.Dec.{leb, eqb}
 use Rattle.sets.specs.Below.{all, any}
-use Rattle.sheet.specs.Sheet.{linkFirst, freq, ruleA, ruleB, ruleKind, ruleCount, ruleValue, pairFirst, pairSecond}
+use Rattle.sheet_rows.specs.Rows.{linkFirst, freq, ruleA, ruleB, ruleKind, ruleCount, ruleValue, pairFirst, pairSecond}
 
 -- how far two frequencies differ, "either one being higher"
 unfoldable pub distance : ℕ → ℕ → ℕ

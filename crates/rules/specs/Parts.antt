@@ -4,8 +4,8 @@ use mathlib.Core.Path.{_≡_}
 use mathlib.Core.List.{List}
 use mathlib.Core.Bool.{true}
 use lib.ListN.{length}
-use Rattle.sheet.specs.Sheet.{mostLinks, mostFreqs, linkBytes, freqBytes, ruleBytes, pairBytes}
-use Rattle.sheet.specs.Sheet.{linksOk, freqsOk, ruleA, ruleB, rulesOk, pairsOk}
+use Rattle.sheet_rows.specs.Rows.{linkBytes, freqBytes, ruleBytes, pairBytes, ruleA, ruleB}
+use Rattle.sheet.specs.Sheet.{mostLinks, mostFreqs, linksOk, freqsOk, rulesOk, pairsOk}
 use Rattle.rules.specs.Layers.{InLink}
 
 pub record Parts (ls fs rs ps : List ℕ) (k n q t : ℕ) : Type 0 where

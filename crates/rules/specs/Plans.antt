@@ -6,7 +6,8 @@ use mathlib.Core.Bool.{Bool, true, false, _&&_}
 use lib.ListN.{length, getD}
 use lib.Dec.{leb, eqb}
 use Rattle.sets.specs.Below.{all, any, first}
-use Rattle.sheet.specs.Sheet.{linkFirst, linkCount, freq, ruleA, ruleB, kOf, qOf, linkPart, freqPart, rulePart, pairPart}
+use Rattle.sheet_rows.specs.Rows.{linkFirst, linkCount, freq, ruleA, ruleB}
+use Rattle.sheet.specs.Sheet.{kOf, qOf, linkPart, freqPart, rulePart, pairPart}
 use Rattle.sheet.specs.Refusal.{numberOf, passing, refusal}
 use Rattle.rules.specs.Pairs.{allows}
 use Rattle.rules.specs.declared.CheckAnswer.{CheckAnswer}

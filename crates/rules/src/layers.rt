@@ -2,9 +2,9 @@
 ghost use mathlib.Core.Path.{_≡_};
 ghost use Prim.Native.Nat.{_*_, _≤_};
 ghost use lib.ListN.{length};
-ghost use Rattle.sheet.specs.Sheet.{linkBytes};
+ghost use Rattle.sheet_rows.specs.Rows.{linkBytes};
 ghost use Rattle.rules.specs.Layers.{layerOf};
-use sheet::rows::link_first;
+use sheet_rows::link_first;
 
 // The link of vertex v, among k links.
 pub fn layer(ls: &[u8], k: usize, v: usize) -> usize

@@ -1,7 +1,7 @@
 // The rules of an accepted sheet: the layer of a vertex, the pair test, and the plan check.
 // The contracts cite `Layers`, `Pairs` and `Plans`; `Parts` is what they ask of the four sections.
-pub mod layers;
-pub mod pairs;
+mod layers;
+mod pairs;
 mod plans;
 
 ghost use mathlib.Core.Path.{_≡_};
@@ -10,6 +10,10 @@ ghost use lib.ListN.{length};
 ghost use Rattle.sheet.specs.Sheet.{kOf, nOf, qOf, tOf};
 ghost use Rattle.sheet.specs.Accepted.{Accepted};
 ghost use Rattle.rules.specs.Plans.{keepsSheet, checked, checkNumber};
+pub use layers::layer;
+pub use pairs::agree;
+pub use pairs::allowed;
+pub use pairs::distance;
 use plans::keeps;
 use sheet::check_sheet;
 use sheet::number;

@@ -3,19 +3,19 @@ ghost use mathlib.Core.Path.{_≡_};
 ghost use mathlib.Core.Bool.{_&&_};
 ghost use Prim.Native.Nat.{_+_, _-_, _*_, _<_, _≤_};
 ghost use lib.ListN.{length};
-ghost use Rattle.sheet.specs.Sheet.{linkFirst, ruleA, ruleB, ruleKind, ruleCount, ruleValue};
+ghost use Rattle.sheet_rows.specs.Rows.{HasRow, pairBytes, linkFirst, ruleA, ruleB, ruleKind, ruleCount, ruleValue};
 ghost use Rattle.rules.specs.Layers.{InLink};
 ghost use Rattle.rules.specs.Parts.{Parts, RowAt};
 ghost use Rattle.rules.specs.Pairs.{distance as distanceOf, samePair, listsPair, agree as agreeOf, allows, fits as fitsBy, joins};
-use sheet::rows::freq;
-use sheet::rows::link_first;
-use sheet::rows::pair_first;
-use sheet::rows::pair_second;
-use sheet::rows::rule_a;
-use sheet::rows::rule_b;
-use sheet::rows::rule_count;
-use sheet::rows::rule_kind;
-use sheet::rows::rule_value;
+use sheet_rows::freq;
+use sheet_rows::link_first;
+use sheet_rows::pair_first;
+use sheet_rows::pair_second;
+use sheet_rows::rule_a;
+use sheet_rows::rule_b;
+use sheet_rows::rule_count;
+use sheet_rows::rule_kind;
+use sheet_rows::rule_value;
 
 // How far x and y differ.
 pub fn distance(x: usize, y: usize) -> usize
@@ -26,13 +26,10 @@ pub fn distance(x: usize, y: usize) -> usize
 
 // Whether pair row i is the pair of positions.
 fn is_pair(p: &[u8], i: usize, x: usize, y: usize) -> bool
-    requires { ⌜ 4 * i + 4 ≤ length (now p) ⌝ }
+    requires { ⌜ HasRow pairBytes (now p) i ⌝ }
     ensures { λ r. ⌜ r ≡ samePair (now (p .entry)) x y i ⌝ }
 {
-    if pair_first(p, i) != x {
-        return false;
-    }
-    pair_second(p, i) == y
+    (pair_first(p, i) == x) & (pair_second(p, i) == y)
 }
 
 // Whether the pair of positions stands among `count` rows from `base` on.

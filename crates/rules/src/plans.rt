@@ -4,15 +4,16 @@ ghost use mathlib.Core.Bool.{true};
 ghost use Prim.Native.Nat.{_+_, _*_, _<_, _≤_};
 ghost use lib.ListN.{length};
 ghost use Rattle.sets.specs.Below.{all};
-ghost use Rattle.sheet.specs.Sheet.{linkBytes, freqBytes, linksOk};
+ghost use Rattle.sheet_rows.specs.Rows.{linkBytes, freqBytes};
+ghost use Rattle.sheet.specs.Sheet.{linksOk};
 ghost use Rattle.rules.specs.Parts.{Parts};
 ghost use Rattle.rules.specs.Plans.{placeOf, hasFreq, vertexOf, inLists, ruleKept, keeps as keepsOf, cellsOf};
 use crate::pairs::row_allows;
-use sheet::rows::freq;
-use sheet::rows::link_count;
-use sheet::rows::link_first;
-use sheet::rows::rule_a;
-use sheet::rows::rule_b;
+use sheet_rows::freq;
+use sheet_rows::link_count;
+use sheet_rows::link_first;
+use sheet_rows::rule_a;
+use sheet_rows::rule_b;
 
 // A cell as a number that compares with fields.
 fn wide(x: u32) -> usize

@@ -1,15 +1,15 @@
 -- Laws of tests, sums and searches below a bound, and what a loop over them owes at each place.
-use mathlib.Core.Path.{_≡_, refl, sym, ap, _∙_}
+use mathlib.Core.Path.{_≡_, refl, sym, _∙_}
 use mathlib.Core.Bool.{Bool, true, false, not, _&&_, _||_}
 use mathlib.Core.Logic.{_⊎_, inl, inr}
 use Prim.Native.Nat.{ℕ, zero, suc, _+_, _≤_, _<_}
 use native.Mathlib.Nat.{add-zero, add-suc}
 use native.Mathlib.Numerals.{add-one}
 use native.Mathlib.Omega.{arith}
-use borrow.Author.Tests.{not-true, not-false, eqb-true, eq-eqb}
-use lib.Dec.{eqb}
+use borrow.Author.Tests.{not-true, not-false, eqb-true, eq-eqb, lt-ltb, le-ltb}
+use lib.Dec.{eqb, ltb}
 use Rattle.sets.specs.Below.{all, any, first, sumTo, one, count, loop, replace}
-use Rattle.sets.proofs.Tests.{clash, bool, case, is-false, iff, and-l, and-r, and-in, and-false, or-l, or-r, or-case, below}
+use Rattle.sets.proofs.Tests.{clash, bool, case, is-false, iff, and-l, and-r, and-in, or-l, or-r, or-case, below}
 
 -- all
 
@@ -119,6 +119,11 @@ unfolding first any
 first-none zero p h = refl
 first-none (suc m) p h = case (λ x. x ≡ suc m) (any m p) _ _ (λ e. clash (any m p || p m) (or-l (p m) e) h)
     (λ e. case (λ x. x ≡ suc m) (p m) m (suc m) (λ t. clash (any m p || p m) (or-r (any m p) t) h) (λ t. refl))
+
+-- the first number that passes is below the bound just where some number passes
+pub first-any : (m : ℕ) (p : ℕ → Bool) → ltb (first m p) m ≡ any m p
+first-any m p = bool (any m p) (λ e. lt-ltb _ _ (first-lt m p e) ∙ sym e)
+    (λ e. rw (first-none m p e) (le-ltb m m (omega arith)) ∙ sym e)
 
 pub any-mono : (m : ℕ) (p q : ℕ → Bool) → ((i : ℕ) → i < m → p i ≡ true → q i ≡ true) → any m p ≡ true → any m q ≡ true
 any-mono m p q f h = any-in m q (first m p) (first-lt m p h) (f (first m p) (first-lt m p h) (first-is m p h))

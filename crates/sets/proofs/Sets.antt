@@ -1,12 +1,12 @@
 -- Laws of intersection, union and difference.
-use mathlib.Core.Path.{_≡_, refl, sym, ap, _∙_, fun-ext}
+use mathlib.Core.Path.{_≡_, refl, sym, ap, fun-ext}
 use mathlib.Core.Bool.{Bool, true, false, not, _&&_, _||_}
-use Prim.Native.Nat.{ℕ, zero, suc, _+_, _<_}
+use Prim.Native.Nat.{ℕ, zero, suc, _<_}
 use native.Mathlib.Omega.{arith}
 use lib.Dec.{eqb}
-use borrow.Author.Tests.{eqb-true, eq-eqb, ne-eqb}
+use borrow.Author.Tests.{eq-eqb, ne-eqb}
 use Rattle.sets.specs.Below.{one, count}
-use Rattle.sets.specs.Sets.{Set, _⊆_, _∩_, _∖_, just}
+use Rattle.sets.specs.Sets.{Set, _⊆_, _∩_, _∪_, _∖_, just}
 use Rattle.sets.proofs.Tests.{clash, is-false, iff, and-l, and-r, and-in, not-out, not-in, below}
 use Rattle.sets.proofs.Below.{count-same}
 
@@ -24,6 +24,22 @@ meet-in S T v p q = and-in p q
 
 pub meet-mono : (S T : Set) (p q : Set) → S ⊆ T → ((v : ℕ) → S v ≡ true → p v ≡ true → q v ≡ true) → (S ∩ p) ⊆ (T ∩ q)
 meet-mono S T p q s t v h = meet-in T q v (s v (meet-l S p v h)) (t v (meet-l S p v h) (meet-r S p v h))
+
+pub meet-self : (S : Set) → S ∩ S ≡ S
+unfolding _∩_
+meet-self S = fun-ext (λ u. go (S u))
+  where
+    go : (b : Bool) → (b && b) ≡ b
+    go true = refl
+    go false = refl
+
+pub join-assoc : (S T U : Set) → S ∪ T ∪ U ≡ S ∪ (T ∪ U)
+unfolding _∪_
+join-assoc S T U = fun-ext (λ u. go (S u) (T u) (U u))
+  where
+    go : (a b c : Bool) → ((a || b) || c) ≡ (a || (b || c))
+    go true b c = refl
+    go false b c = refl
 
 -- a set without one of its members
 pub without-sub : (a : ℕ) (S : Set) → (S ∖ just a) ⊆ S

@@ -1,5 +1,5 @@
 -- A sheet that no cause refuses is accepted: what each test of the chain of causes says.
-use Prim.Native.Nat.{ℕ, _≤_, _<_}
+use Prim.Native.Nat.{ℕ, _≤_}
 use mathlib.Core.Path.{_≡_}
 use mathlib.Core.List.{List}
 use mathlib.Core.Bool.{true, _&&_}
@@ -11,19 +11,8 @@ use Rattle.wire.specs.Fields.{le32}
 use Rattle.sheet.specs.Sheet.{mostLinks, mostFreqs, mostRules, mostPairs, headerBytes, kOf, nOf, qOf, tOf, endAt}
 use Rattle.sheet.specs.Sheet.{linkPart, freqPart, rulePart, pairPart, linksOk, freqsOk, rulesOk, pairsOk}
 use Rattle.sheet.specs.Refusal.{formOk, linkCountOk, countsOk, tableOk, offsetsOk, sectionCause, refusal}
-use Rattle.sheet.specs.Accepted.{Accepted}
+use Rattle.sheet.specs.Accepted.{Head, Accepted}
 use Rattle.sheet.proofs.Causes.{unless-zero, passed}
-
--- what the header's four tests say
-pub record Head (s : List ℕ) : Type 0 where
-  pub k-some : 0 < kOf s
-  pub k-small : kOf s ≤ mostLinks
-  pub n-some : 0 < nOf s
-  pub n-small : nOf s ≤ mostFreqs
-  pub q-small : qOf s ≤ mostRules
-  pub t-small : tOf s ≤ mostPairs
-  pub long : headerBytes ≤ length s
-  pub whole : length s ≡ endAt (kOf s) (nOf s) (qOf s) (tOf s)
 
 pub form-long : (s : List ℕ) → formOk s ≡ true → headerBytes ≤ length s
 unfolding formOk
@@ -57,16 +46,8 @@ accepted s e =
     let l = passed (linksOk (linkPart s) (kOf s) (nOf s)) 5 _ (lit< tt) (d .1) in
     let f = passed (freqsOk (linkPart s) (freqPart s) (kOf s)) 6 _ (lit< tt) (l .1) in
     let r = passed (rulesOk (rulePart s) (kOf s) (qOf s) (tOf s)) 7 _ (lit< tt) (f .1) in
-    let h = head-is s (a .0) (b .0) (c .0) (d .0) in
     record {
-      k-some = h .k-some;
-      k-small = h .k-small;
-      n-some = h .n-some;
-      n-small = h .n-small;
-      q-small = h .q-small;
-      t-small = h .t-small;
-      long = h .long;
-      whole = h .whole;
+      head = head-is s (a .0) (b .0) (c .0) (d .0);
       links = l .0;
       freqs = f .0;
       rules = r .0;

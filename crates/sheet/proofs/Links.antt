@@ -9,7 +9,8 @@ use borrow.Author.Tests.{eqb-true, ltb-true}
 use Rattle.sets.specs.Below.{all, sumTo}
 use Rattle.sets.proofs.Tests.{and-out}
 use Rattle.sets.proofs.Below.{all-out, all-false, sum-in}
-use Rattle.sheet.specs.Sheet.{linkFirst, linkCount, linkRowOk, linkOk, linksOk, rowIf, linkRow}
+use Rattle.sheet_rows.specs.Rows.{linkFirst, linkCount}
+use Rattle.sheet.specs.Sheet.{linkRowOk, linkOk, linksOk, rowIf, linkRow}
 use Rattle.sheet.specs.declared.Row.{Row}
 use Rattle.sheet.specs.declared.Row.the-variants.{Link, Bad}
 

@@ -1,12 +1,14 @@
 -- The job sheet, as a list of bytes: its limits, its header, where its sections begin, and what each row has to say.
--- A section is the list that begins at its offset; rows are numbered from 0 within it.
+-- The rows' fields are those of `Rows`, crate `sheet_rows`.
 use Prim.Native.Nat.{ℕ, _+_, _-_, _*_}
 use mathlib.Core.List.{List}
 use mathlib.Core.Bool.{Bool, true, false, cond, _&&_, _||_}
 use lib.ListN.{drop}
 use lib.Dec.{ltb, leb, eqb}
 use Rattle.sets.specs.Below.{all, sumTo}
-use Rattle.wire.specs.Fields.{le16, le32}
+use Rattle.wire.specs.Fields.{le32}
+use Rattle.sheet_rows.specs.Rows.{linkBytes, freqBytes, ruleBytes, pairBytes}
+use Rattle.sheet_rows.specs.Rows.{linkFirst, linkCount, freq, ruleA, ruleB, ruleKind, ruleCount, ruleValue, pairFirst, pairSecond}
 use Rattle.sheet.specs.declared.Row.{Row}
 use Rattle.sheet.specs.declared.Row.the-variants.{Link, Bad}
 
@@ -30,22 +32,6 @@ mostKHz = 9999999
 -- "The header has ten 32-bit fields"
 abbrev pub headerBytes : ℕ
 headerBytes = 40
-
--- "Link row: 16-bit first frequency, 16-bit count"
-abbrev pub linkBytes : ℕ
-linkBytes = 4
-
--- "Frequency: 32 bits"
-abbrev pub freqBytes : ℕ
-freqBytes = 4
-
--- "Rule row: 16-bit links a and b .., 16-bit kind, 16-bit count, 32-bit value"
-abbrev pub ruleBytes : ℕ
-ruleBytes = 12
-
--- "Pair row: 16-bit positions"
-abbrev pub pairBytes : ℕ
-pairBytes = 4
 
 -- the header: "form (1), links k, frequencies n, rules q, pairs t", then offsets and length
 abbrev pub kOf : List ℕ → ℕ
@@ -88,12 +74,6 @@ pairPart s = drop (pairsAt (kOf s) (nOf s) (qOf s)) s
 
 -- link rows
 
-abbrev pub linkFirst : List ℕ → ℕ → ℕ
-linkFirst p l = le16 p (linkBytes * l)
-
-abbrev pub linkCount : List ℕ → ℕ → ℕ
-linkCount p l = le16 p (linkBytes * l + 2)
-
 -- "First is the sum of earlier counts; count is at least 1", where `sum` is that sum
 abbrev pub linkRowOk : List ℕ → ℕ → ℕ → Bool
 linkRowOk p l sum = eqb (linkFirst p l) sum && ltb 0 (linkCount p l)
@@ -115,10 +95,6 @@ linkRow p l sum = rowIf (linkRowOk p l sum) (Link (linkFirst p l) (linkCount p l
 
 -- frequencies
 
--- the v-th frequency of the sheet
-abbrev pub freq : List ℕ → ℕ → ℕ
-freq p v = le32 p (freqBytes * v)
-
 -- "1 to 9,999,999, strictly rising within a link": the i-th of a link whose first is at base
 unfoldable pub freqOk : List ℕ → ℕ → ℕ → Bool
 freqOk p base i = ltb 0 (freq p (base + i)) && leb (freq p (base + i)) mostKHz && (eqb i 0 || ltb (freq p (base + i - 1)) (freq p (base + i)))
@@ -131,21 +107,6 @@ unfoldable pub freqsOk : List ℕ → List ℕ → ℕ → Bool
 freqsOk links p k = all k (linkFreqsOk links p)
 
 -- rule rows
-
-abbrev pub ruleA : List ℕ → ℕ → ℕ
-ruleA p j = le16 p (ruleBytes * j)
-
-abbrev pub ruleB : List ℕ → ℕ → ℕ
-ruleB p j = le16 p (ruleBytes * j + 2)
-
-abbrev pub ruleKind : List ℕ → ℕ → ℕ
-ruleKind p j = le16 p (ruleBytes * j + 4)
-
-abbrev pub ruleCount : List ℕ → ℕ → ℕ
-ruleCount p j = le16 p (ruleBytes * j + 6)
-
-abbrev pub ruleValue : List ℕ → ℕ → ℕ
-ruleValue p j = le32 p (ruleBytes * j + 8)
 
 -- (a, b) comes before (c, d)
 unfoldable pub before : ℕ → ℕ → ℕ → ℕ → Bool
@@ -186,12 +147,6 @@ unfoldable pub rulesOk : List ℕ → ℕ → ℕ → ℕ → Bool
 rulesOk p k q t = all q (ruleOk p k) && eqb (sumTo q (listed p)) t
 
 -- pair rows
-
-abbrev pub pairFirst : List ℕ → ℕ → ℕ
-pairFirst p i = le16 p (pairBytes * i)
-
-abbrev pub pairSecond : List ℕ → ℕ → ℕ
-pairSecond p i = le16 p (pairBytes * i + 2)
 
 -- row i comes after the row before it
 unfoldable pub pairRises : List ℕ → ℕ → Bool

@@ -4,33 +4,29 @@ ghost use mathlib.Core.Bool.{true};
 ghost use Prim.Native.Nat.{_+_, _*_, _≤_};
 ghost use lib.ListN.{length};
 ghost use Rattle.sets.specs.Below.{all};
-ghost use Rattle.sheet.specs.Sheet.{mostLinks, linkBytes, freqBytes, linksOk, freqOk, freqsOk};
+ghost use Rattle.sheet_rows.specs.Rows.{HasRow, linkBytes, freqBytes};
+ghost use Rattle.sheet.specs.Sheet.{mostLinks, linksOk, freqOk, freqsOk};
 use crate::header::MOST_KHZ;
-use crate::rows::freq;
-use crate::rows::link_count;
-use crate::rows::link_first;
+use sheet_rows::freq;
+use sheet_rows::link_count;
+use sheet_rows::link_first;
 
 // The i-th frequency of a link whose first is at base.
 fn freq_ok(p: &[u8], base: usize, i: usize) -> bool
-    requires { ⌜ 4 * (base + i) + 4 ≤ length (now p) ⌝ }
+    requires { ⌜ HasRow freqBytes (now p) (base + i) ⌝ }
     ensures { λ r. ⌜ r ≡ freqOk (now (p .entry)) base i ⌝ }
 {
     let f = freq(p, base + i);
-    if f == 0 {
-        return false;
-    }
-    if f > MOST_KHZ {
-        return false;
-    }
+    let in_range = (0 < f) & (f <= MOST_KHZ);
     if i == 0 {
-        return true;
+        return in_range;
     }
-    freq(p, base + i - 1) < f
+    in_range & (freq(p, base + i - 1) < f)
 }
 
 // The frequencies of one link.
 fn rising(p: &[u8], base: usize, count: usize) -> bool
-    requires { ⌜ 4 * (base + count) ≤ length (now p) ⌝ }
+    requires { ⌜ freqBytes * (base + count) ≤ length (now p) ⌝ }
     ensures { λ r. ⌜ r ≡ all count (freqOk (now (p .entry)) base) ⌝ }
 {
     let mut i = 0;

@@ -32,10 +32,7 @@ pub fn link_count_ok(s: &[u8]) -> bool
     ensures { λ r. ⌜ r ≡ linkCountOk (now (s .entry)) ⌝ }
 {
     let k = word(s, 4);
-    if k == 0 {
-        return false;
-    }
-    k <= MOST_LINKS
+    (0 < k) & (k <= MOST_LINKS)
 }
 
 // Cause 3: n, q and t.
@@ -44,16 +41,7 @@ pub fn counts_ok(s: &[u8]) -> bool
     ensures { λ r. ⌜ r ≡ countsOk (now (s .entry)) ⌝ }
 {
     let n = word(s, 8);
-    if n == 0 {
-        return false;
-    }
-    if n > MOST_FREQS {
-        return false;
-    }
-    if word(s, 12) > MOST_RULES {
-        return false;
-    }
-    word(s, 16) <= MOST_PAIRS
+    (0 < n) & (n <= MOST_FREQS) & (word(s, 12) <= MOST_RULES) & (word(s, 16) <= MOST_PAIRS)
 }
 
 // Cause 4: the offsets and the length.
@@ -61,24 +49,13 @@ pub fn offsets_ok(s: &[u8]) -> bool
     requires { ⌜ headerBytes ≤ length (now s) ⌝ }
     ensures { λ r. ⌜ r ≡ offsetsOk (now (s .entry)) ⌝ }
 {
-    if word(s, 20) != 40 {
-        return false;
-    }
     let freqs_at = 40 + 4 * word(s, 4);
-    if word(s, 24) != freqs_at {
-        return false;
-    }
     let rules_at = freqs_at + 4 * word(s, 8);
-    if word(s, 28) != rules_at {
-        return false;
-    }
     let pairs_at = rules_at + 12 * word(s, 12);
-    if word(s, 32) != pairs_at {
-        return false;
-    }
     let end = pairs_at + 4 * word(s, 16);
-    if word(s, 36) != end {
-        return false;
-    }
-    s.len() == end
+    let offsets = (word(s, 20) == 40)
+        & (word(s, 24) == freqs_at)
+        & (word(s, 28) == rules_at)
+        & (word(s, 32) == pairs_at);
+    offsets & (word(s, 36) == end) & (s.len() == end)
 }

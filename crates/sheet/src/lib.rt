@@ -4,7 +4,6 @@ mod freq_rows;
 mod header;
 mod link_rows;
 mod pair_rows;
-pub mod rows;
 mod rule_rows;
 
 ghost use mathlib.Core.Path.{_≡_};

@@ -1,17 +1,18 @@
 // The link section, cause 5.
 ghost use mathlib.Core.Path.{_≡_};
-ghost use Prim.Native.Nat.{_+_, _*_, _≤_};
+ghost use Prim.Native.Nat.{_*_, _≤_};
 ghost use lib.ListN.{length};
-ghost use Rattle.sheet.specs.Sheet.{mostLinks, linkBytes, linksOk, linkRow};
+ghost use Rattle.sheet_rows.specs.Rows.{HasRow, linkBytes};
+ghost use Rattle.sheet.specs.Sheet.{mostLinks, linksOk, linkRow};
 ghost use Rattle.sheet.specs.Refusal.{numberOf, unless};
 use crate::Answer;
 use crate::Row;
-use crate::rows::link_count;
-use crate::rows::link_first;
+use sheet_rows::link_count;
+use sheet_rows::link_first;
 
 // Link row l, where it keeps its rule; `sum` is the sum of the earlier counts.
 fn link_row(p: &[u8], l: usize, sum: usize) -> Row
-    requires { ⌜ 4 * l + 4 ≤ length (now p) ⌝ }
+    requires { ⌜ HasRow linkBytes (now p) l ⌝ }
     ensures { λ r. ⌜ r ≡ linkRow (now (p .entry)) l sum ⌝ }
 {
     let first = link_first(p, l);

@@ -4,19 +4,20 @@ ghost use mathlib.Core.Bool.{true};
 ghost use Prim.Native.Nat.{_+_, _*_, _<_, _≤_};
 ghost use lib.ListN.{length};
 ghost use Rattle.sets.specs.Below.{all};
-ghost use Rattle.sheet.specs.Sheet.{mostLinks, mostRules, linkBytes, ruleBytes, pairBytes, rulesOk, pairRises, pairOk, rulePairsOk, pairsOk};
-use crate::rows::link_count;
-use crate::rows::pair_first;
-use crate::rows::pair_second;
-use crate::rows::rule_a;
-use crate::rows::rule_b;
-use crate::rows::rule_value;
+ghost use Rattle.sheet_rows.specs.Rows.{HasRow, linkBytes, ruleBytes, pairBytes};
+ghost use Rattle.sheet.specs.Sheet.{mostLinks, mostRules, rulesOk, pairRises, pairOk, rulePairsOk, pairsOk};
 use crate::rule_rows::comes_before;
 use crate::rule_rows::listed;
+use sheet_rows::link_count;
+use sheet_rows::pair_first;
+use sheet_rows::pair_second;
+use sheet_rows::rule_a;
+use sheet_rows::rule_b;
+use sheet_rows::rule_value;
 
 // Pair row i comes after the row before it.
 fn pair_rises(p: &[u8], i: usize) -> bool
-    requires { ⌜ (0 < i) × (4 * i + 4 ≤ length (now p)) ⌝ }
+    requires { ⌜ (0 < i) × HasRow pairBytes (now p) i ⌝ }
     ensures { λ r. ⌜ r ≡ pairRises (now (p .entry)) i ⌝ }
 {
     let h = i - 1;
@@ -30,25 +31,20 @@ fn pair_rises(p: &[u8], i: usize) -> bool
 
 // The i-th pair of a rule whose pairs start at base, between links of m and n frequencies.
 fn pair_ok(p: &[u8], base: usize, m: usize, n: usize, i: usize) -> bool
-    requires { ⌜ 4 * (base + i) + 4 ≤ length (now p) ⌝ }
+    requires { ⌜ HasRow pairBytes (now p) (base + i) ⌝ }
     ensures { λ r. ⌜ r ≡ pairOk (now (p .entry)) base m n i ⌝ }
 {
     let at = base + i;
-    if pair_first(p, at) >= m {
-        return false;
-    }
-    if pair_second(p, at) >= n {
-        return false;
-    }
+    let listed = (pair_first(p, at) < m) & (pair_second(p, at) < n);
     if i == 0 {
-        return true;
+        return listed;
     }
-    pair_rises(p, at)
+    listed & pair_rises(p, at)
 }
 
 // The pairs of a rule.
 fn pairs_rise(p: &[u8], base: usize, m: usize, n: usize, count: usize) -> bool
-    requires { ⌜ 4 * (base + count) ≤ length (now p) ⌝ }
+    requires { ⌜ pairBytes * (base + count) ≤ length (now p) ⌝ }
     ensures { λ r. ⌜ r ≡ all count (pairOk (now (p .entry)) base m n) ⌝ }
 {
     let mut i = 0;

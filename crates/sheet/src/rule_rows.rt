@@ -1,39 +1,28 @@
 // The rule section, cause 7.
 ghost use mathlib.Core.Path.{_≡_};
-ghost use Prim.Native.Nat.{_+_, _*_, _<_, _≤_};
+ghost use Prim.Native.Nat.{_*_, _<_, _≤_};
 ghost use lib.ListN.{length};
-ghost use Rattle.sheet.specs.Sheet.{mostRules, ruleBytes, before as comesBefore, plainOk, kindOk, listed as listedBy, ruleRises, ruleRowOk, rulesOk};
+ghost use Rattle.sheet_rows.specs.Rows.{HasRow, ruleBytes};
+ghost use Rattle.sheet.specs.Sheet.{mostRules, before as comesBefore, plainOk, kindOk, listed as listedBy, ruleRises, ruleRowOk, rulesOk};
 use crate::header::MOST_KHZ;
-use crate::rows::rule_a;
-use crate::rows::rule_b;
-use crate::rows::rule_count;
-use crate::rows::rule_kind;
-use crate::rows::rule_value;
+use sheet_rows::rule_a;
+use sheet_rows::rule_b;
+use sheet_rows::rule_count;
+use sheet_rows::rule_kind;
+use sheet_rows::rule_value;
 
 // (a, b) comes before (c, d).
 pub fn comes_before(a: usize, b: usize, c: usize, d: usize) -> bool
     ensures { λ r. ⌜ r ≡ comesBefore a b c d ⌝ }
 {
-    if a < c {
-        return true;
-    }
-    if a == c {
-        return b < d;
-    }
-    false
+    (a < c) | ((a == c) & (b < d))
 }
 
 // Count and value of a rule of kind 1 or 2.
 fn plain_ok(count: usize, value: usize) -> bool
     ensures { λ r. ⌜ r ≡ plainOk count value ⌝ }
 {
-    if count != 0 {
-        return false;
-    }
-    if value == 0 {
-        return false;
-    }
-    value <= MOST_KHZ
+    (count == 0) & (0 < value) & (value <= MOST_KHZ)
 }
 
 // Kind, count and value of a rule; `sum` is the sum of the earlier kind 3 counts.
@@ -41,23 +30,14 @@ fn kind_ok(kind: usize, count: usize, value: usize, sum: usize) -> bool
     ensures { λ r. ⌜ r ≡ kindOk kind count value sum ⌝ }
 {
     if kind == 3 {
-        if count == 0 {
-            return false;
-        }
-        return value == sum;
+        return (0 < count) & (value == sum);
     }
-    if kind == 1 {
-        return plain_ok(count, value);
-    }
-    if kind == 2 {
-        return plain_ok(count, value);
-    }
-    false
+    ((kind == 1) | (kind == 2)) & plain_ok(count, value)
 }
 
 // Rule row j comes after the row before it.
 fn rule_rises(p: &[u8], j: usize) -> bool
-    requires { ⌜ 12 * j + 12 ≤ length (now p) ⌝ }
+    requires { ⌜ HasRow ruleBytes (now p) j ⌝ }
     ensures { λ r. ⌜ r ≡ ruleRises (now (p .entry)) j ⌝ }
 {
     if j == 0 {
@@ -69,26 +49,18 @@ fn rule_rises(p: &[u8], j: usize) -> bool
 
 // Rule row j; `sum` is the sum of the earlier kind 3 counts.
 fn rule_row_ok(p: &[u8], k: usize, sum: usize, j: usize) -> bool
-    requires { ⌜ 12 * j + 12 ≤ length (now p) ⌝ }
+    requires { ⌜ HasRow ruleBytes (now p) j ⌝ }
     ensures { λ r. ⌜ r ≡ ruleRowOk (now (p .entry)) k sum j ⌝ }
 {
     let a = rule_a(p, j);
     let b = rule_b(p, j);
-    if a >= b {
-        return false;
-    }
-    if b >= k {
-        return false;
-    }
-    if !rule_rises(p, j) {
-        return false;
-    }
-    kind_ok(rule_kind(p, j), rule_count(p, j), rule_value(p, j), sum)
+    let kind = kind_ok(rule_kind(p, j), rule_count(p, j), rule_value(p, j), sum);
+    (a < b) & (b < k) & rule_rises(p, j) & kind
 }
 
 // How many pairs rule j lists.
 pub fn listed(p: &[u8], j: usize) -> usize
-    requires { ⌜ 12 * j + 12 ≤ length (now p) ⌝ }
+    requires { ⌜ HasRow ruleBytes (now p) j ⌝ }
     ensures { λ r. ⌜ (r ≡ listedBy (now (p .entry)) j) × (r < 65536) ⌝ }
 {
     if rule_kind(p, j) == 3 {

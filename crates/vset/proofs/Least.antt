@@ -1,17 +1,14 @@
 -- Where a set has a member: in a word, from a vertex on, or nowhere.
 use Prim.Native.Nat.{ℕ, _+_, _-_, _*_, _/_, _^_, _≤_, _<_}
-use mathlib.Core.Bool.{Bool, true, false, not, true≢false}
-use mathlib.Core.Path.{_≡_, refl, sym, ap, _∙_}
+use mathlib.Core.Bool.{true, false, true≢false}
+use mathlib.Core.Path.{_≡_, sym, ap, _∙_}
 use native.Mathlib.Nat.{add-assoc, add-zero, div-one, lt-of-le-of-lt}
 use native.Mathlib.Decide.{decLt}
 use native.Mathlib.Omega.{arith}
 use lib.Count.{trailingZeros}
 use lib.Pow.{shr-le}
-use Rattle.sets.specs.Below.{any, first}
 use Rattle.sets.specs.Sets.{Set}
-use Rattle.sets.proofs.Tests.{clash, bool, is-false}
-use Rattle.sets.proofs.Below.{any-in, first-lt, first-is, first-least, first-none}
-use Rattle.vset.specs.Words.{bit, None, Least, Emptiness}
+use Rattle.vset.specs.Words.{bit, None, Least}
 use Rattle.vset.proofs.Bits.{bit-none, bit-shr, bit-high, trailing-below, trailing-at, trailing-lt}
 use Rattle.vset.proofs.Words.{Ends, Word}
 
@@ -95,42 +92,3 @@ least-from {S} {here} {n} {r} from l h L = record {
   none = none-join S from here r h (L .none);
   found = L .found;
 }
-
--- a member is the least from itself on
-pub least-here : {S : Set} {from n r : ℕ} → Least S from n r → S from ≡ true → r ≡ from
-least-here {S} {from} {n} {r} L e = go (decLt from r)
-  where
-    go : Dec (from < r) → r ≡ from
-    go (yes l) = absurd (true≢false (sym e ∙ L .none from (omega arith) l))
-    go (no m) = omega (arith, L .after)
-
--- there is one least member
-pub least-unique : {S : Set} {from n r q : ℕ} → Least S from n r → Least S from n q → r ≡ q
-least-unique {S} {from} {n} {r} {q} L M = go (decLt r q) (decLt q r)
-  where
-    go : Dec (r < q) → Dec (q < r) → r ≡ q
-    go (yes l) d = absurd (true≢false (sym (L .found (omega (arith, M .within))) ∙ M .none r (L .after) l))
-    go (no m) (yes l) = absurd (true≢false (sym (M .found (omega (arith, L .within))) ∙ L .none q (M .after) l))
-    go (no m) (no k) = omega arith
-
-pub first-is-least : (n : ℕ) (S : Set) → Least S 0 n (first n S)
-first-is-least n S = bool (any n S)
-    (λ e. record { after = omega arith; within = omega (arith, first-lt n S e); none = λ v a l. first-least n S v l; found = λ l. first-is n S e })
-    (λ e. record { after = omega arith; within = omega (arith, first-none n S e); none = λ v a l. first-least n S v l; found = λ l. absurd (omega (arith, first-none n S e)) })
-
--- the least member of all is the first below the bound
-pub least-first : {S : Set} {n r : ℕ} → Least S 0 n r → first n S ≡ r
-least-first {S} {n} {r} L = least-unique (first-is-least n S) L
-
--- an empty set has no member below a bound
-pub emptiness-any : {S : Set} {n : ℕ} {r : Bool} → Ends S n → Emptiness S r → any n S ≡ not r
-emptiness-any {S} {n} {r} E X = bool r
-    (λ e. rw e (is-false (any n S) (λ h. clash (S (first n S)) (first-is n S h) (X .empty e (first n S)))))
-    (λ e. rw e (let m = X .some e in any-in n S (m .0) (inside m) (m .1)))
-  where
-    inside : (m : (v : ℕ) × (S v ≡ true)) → m .0 < n
-    inside m = go (decLt (m .0) n)
-      where
-        go : Dec (m .0 < n) → m .0 < n
-        go (yes l) = l
-        go (no x) = clash (S (m .0)) (m .1) (E .past (m .0) (omega arith))

@@ -1,7 +1,7 @@
 -- Laws of the set that a row of words keeps. `Word S i x` says that the word x keeps part i of S, the vertices from 64 * i to 64 * i + 63,
 -- whatever row or operation x comes from, and every law below goes through it.
-use Prim.Native.Nat.{ℕ, zero, suc, _+_, _-_, _*_, _/_, _%_, _^_, _≤_, _<_}
-use mathlib.Core.Bool.{Bool, true, false, not, _&&_, _||_}
+use Prim.Native.Nat.{ℕ, _+_, _-_, _*_, _/_, _%_, _^_, _≤_, _<_}
+use mathlib.Core.Bool.{false}
 use mathlib.Core.List.{List}
 use mathlib.Core.Path.{_≡_, refl, sym, ap, _∙_, fun-ext}
 use native.Mathlib.Nat.{one-mul}
@@ -11,7 +11,7 @@ use borrow.Author.Tests.{eq-eqb, ne-eqb}
 use lib.Dec.{eqb}
 use lib.Pow.{shl-exact, pow-lt}
 use lib.Bits.{bitAnd, bitOr}
-use lib.ListN.{length, getD, set, length-set, List·getD-eq-default}
+use lib.ListN.{length, getD, set, List·getD-eq-default}
 use lib.Seq.{getD-set-same, getD-set-other}
 use Rattle.sets.specs.Sets.{Set, _∩_, _∪_, _∖_, just, nothing}
 use Rattle.vset.specs.Words.{bit, has}
@@ -119,33 +119,3 @@ row-set ws i x S h W there = fun-ext (λ u. go u (ℕ-discrete (u / 64) i))
     go : (u : ℕ) → Dec (u / 64 ≡ i) → has (set ws i x) u ≡ S u
     go u (yes e) = rw (e, getD-set-same) (sym (word-at u W e))
     go u (no n) = rw (getD-set-other ws i (u / 64) x 0 n) (there u n)
-
--- a loop that stores word by word: the words below i keep S, the others are as they were
-
-pub record Filled (S : Set) (d₀ d : List ℕ) (i : ℕ) : Type 0 where
-  pub upto : i ≤ length d₀
-  pub long : length d ≡ length d₀
-  pub past : (j : ℕ) → j < i → Word S j (getD d j 0)
-  pub rest : (j : ℕ) → i ≤ j → getD d j 0 ≡ getD d₀ j 0
-
-pub filled-none : (S : Set) (d : List ℕ) → Filled S d d 0
-filled-none S d = record { upto = omega arith; long = refl; past = λ j h. absurd (omega arith); rest = λ j h. refl }
-
-pub filled-more : {S : Set} {d₀ d : List ℕ} {i : ℕ} (x : ℕ) → Filled S d₀ d i → i < length d → Word S i x → Filled S d₀ (set d i x) (i + 1)
-filled-more {S} {d₀} {d} {i} x F h W = record {
-  upto = omega arith;
-  long = simp length-set (F .long);
-  past = λ j l. go j l (ℕ-discrete j i);
-  rest = λ j l. getD-set-other d i j x 0 (λ e. omega arith) ∙ F .rest j (omega arith);
-}
-  where
-    go : (j : ℕ) → j < i + 1 → Dec (j ≡ i) → Word S j (getD (set d i x) j 0)
-    go j l (yes e) = rw (e, getD-set-same) W
-    go j l (no n) = rw (getD-set-other d i j x 0 n) (F .past j (omega arith))
-
--- the word that is not stored yet is that of the row at the start
-pub filled-here : {S : Set} {d₀ d : List ℕ} {i : ℕ} → Filled S d₀ d i → Word (has d₀) i (getD d i 0)
-filled-here {S} {d₀} {d} {i} F = rw (F .rest i (omega arith)) (word-has d₀ i)
-
-pub filled-all : {S : Set} {d₀ d : List ℕ} {i : ℕ} → Filled S d₀ d i → length d ≤ i → Ends S (64 * length d₀) → has d ≡ S
-filled-all {S} {d₀} {d} {i} F h E = row-keeps d S (λ j l. F .past j (omega arith)) (ends-wide E (64 * length d) (omega (arith, F .long)))

@@ -1,13 +1,11 @@
 // Sets of vertices, kept in words of 64 bits. A row of words is a set: vertex v is bit v % 64 of word v / 64.
-// Here a row is a slice, of any number of words; in `row` it is a part of one slice that holds many rows.
+// A row is a slice, of any number of words; rows inside one slice are in the crate `rows`.
 // The contracts cite `has` of specs/Words.antt, the set that a row keeps, and the operations on sets of the crate `sets`.
-pub mod row;
-
 ghost use mathlib.Core.Path.{_≡_};
 ghost use Prim.Native.Nat.{_*_, _^_, _<_, _≤_};
 ghost use lib.ListN.{length};
 ghost use Rattle.sets.specs.Below.{count};
-ghost use Rattle.sets.specs.Sets.{_∩_, _∪_, _∖_, just, nothing};
+ghost use Rattle.sets.specs.Sets.{_∩_, _∪_, _∖_, just};
 ghost use Rattle.vset.specs.Words.{has, Least, Emptiness};
 
 // Whether v is in the set.
@@ -38,65 +36,6 @@ pub fn remove(row: &mut [u64], v: usize)
     let i = v / 64;
     let k = v % 64;
     row[i] = row[i] & !(1u64 << k);
-}
-
-// Keeps in dst what is also in src.
-pub fn intersect(dst: &mut [u64], src: &[u64])
-    requires { ⌜ length (now dst) ≡ length (now src) ⌝ }
-    ensures { λ r. ⌜ has (now (dst .exit)) ≡ has (now (dst .entry)) ∩ has (now (src .entry)) ⌝ }
-{
-    let mut i = 0;
-    while i < dst.len() {
-        dst[i] = dst[i] & src[i];
-        i += 1;
-    }
-}
-
-// Adds the members of src to dst.
-pub fn unite(dst: &mut [u64], src: &[u64])
-    requires { ⌜ length (now dst) ≡ length (now src) ⌝ }
-    ensures { λ r. ⌜ has (now (dst .exit)) ≡ has (now (dst .entry)) ∪ has (now (src .entry)) ⌝ }
-{
-    let mut i = 0;
-    while i < dst.len() {
-        dst[i] = dst[i] | src[i];
-        i += 1;
-    }
-}
-
-// Takes the members of src out of dst.
-pub fn take_away(dst: &mut [u64], src: &[u64])
-    requires { ⌜ length (now dst) ≡ length (now src) ⌝ }
-    ensures { λ r. ⌜ has (now (dst .exit)) ≡ has (now (dst .entry)) ∖ has (now (src .entry)) ⌝ }
-{
-    let mut i = 0;
-    while i < dst.len() {
-        dst[i] = dst[i] & !src[i];
-        i += 1;
-    }
-}
-
-// Makes dst the set src.
-pub fn copy(dst: &mut [u64], src: &[u64])
-    requires { ⌜ length (now dst) ≡ length (now src) ⌝ }
-    ensures { λ r. ⌜ has (now (dst .exit)) ≡ has (now (src .entry)) ⌝ }
-{
-    let mut i = 0;
-    while i < dst.len() {
-        dst[i] = src[i];
-        i += 1;
-    }
-}
-
-// Empties the set.
-pub fn clear(row: &mut [u64])
-    ensures { λ r. ⌜ has (now (row .exit)) ≡ nothing ⌝ }
-{
-    let mut i = 0;
-    while i < row.len() {
-        row[i] = 0;
-        i += 1;
-    }
 }
 
 // How many members the set has: the number of ones in its row.

@@ -6,7 +6,7 @@ use native.Mathlib.Omega.{arith}
 use mathlib.Core.Bool.{true}
 use mathlib.Core.Path.{_≡_}
 use Rattle.sets.specs.Sets.{_∩_}
-use Rattle.vset.specs.Rows.{setAt, rowAt}
+use Rattle.rows.specs.Rows.{setAt, rowAt}
 use Rattle.sets.proofs.Tests.{below}
 use Rattle.filters.proofs.Masks.{all-seen, one-empty}
 use Rattle.filters.proofs.is_open.Statement.{statement}
@@ -29,13 +29,13 @@ returns c G N =
     let q = c .before .before in
     let i = q .before in
     let l = i .before in
-    one-empty N (l .loop .c) (l .loop .inv .0) (i .loop-test .taken) (rw (row-there q) at (c .before .no-common-rows .ensures .empty (c .if1 .taken)))
+    one-empty N (l .loop .c) (l .loop .inv .0) (i .loop-test .taken) (rw (row-there q) at (c .before .is-empty-common .ensures .empty (c .if1 .taken)))
 
 loop-again : tie.Need-loop-again Inv-loop μ-loop
 loop-again c =
     let q = c .before .before in
     let l = q .before .before in
-    let t = rw (row-there q) at (c .before .no-common-rows .ensures .some (c .if1 .left)) in
+    let t = rw (row-there q) at (c .before .is-empty-common .ensures .some (c .if1 .left)) in
     (omega arith, omega arith, λ x a b. below x (l .loop .c) (rw add-one at b) (l .loop .inv .2 x a) (λ e. rw e t))
 
 returns-2 : tie.Need-returns-2 Inv-loop μ-loop

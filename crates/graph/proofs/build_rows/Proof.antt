@@ -4,24 +4,24 @@ use Prim.Native.Nat.{_-_, _≤_}
 use mathlib.Core.Path.{_≡_}
 use native.Mathlib.Omega.{arith}
 use lib.ListN.{length}
-use Rattle.vset.proofs.Rows.{outside-none, outside-then}
+use Rattle.rows.proofs.Rows.{outside-none, outside-then}
 use Rattle.graph.specs.Rows.{RowsFit, Built}
 use Rattle.graph.proofs.Rows.{fit-same}
 use Rattle.graph.proofs.build_rows.Statement.{statement}
 use Rattle.graph.proofs.build_rows.Tie as tie
 
 abbrev Inv-loop : tie.InvT-loop
-Inv-loop ls fs rs ps k n q t w graph part₀ spare j₀ part j =
-    (j ≤ q) × RowsFit w (graph - w) graph n (length part) × Built ls fs rs ps k n j w (graph - w) graph part₀ part
+Inv-loop ls fs rs ps k n q t w graph part₀ j₀ part j =
+    (j ≤ q) × RowsFit w graph n (length part) × Built ls fs rs ps k n j w graph part₀ part
 
 abbrev μ-loop : tie.MeasureT-loop
-μ-loop ls fs rs ps k n q t w graph part₀ spare j₀ part j = q - j
+μ-loop ls fs rs ps k n q t w graph part₀ j₀ part j = q - j
 
 start-rows-requires : tie.Need-start-rows-requires Inv-loop μ-loop
-start-rows-requires c κs = let s = c .before .before .before .before .before .before in (s .pre .0, s .pre .2)
+start-rows-requires c κs = let s = c .before .before .before .before .before .before in (s .pre .0, s .pre .1)
 
 loop-holds : tie.Need-loop-holds Inv-loop μ-loop
-loop-holds c = let x = c .before .before .start-rows .ensures in (search needs, fit-same (c .before .before .before .before .before .before .before .before .before .pre .2) (x .rest), record { rows = x .rows; rest = outside-none _ _ _ })
+loop-holds c = let x = c .before .before .start-rows .ensures in (search needs, fit-same (c .before .before .before .before .before .before .before .before .before .pre .1) (x .rest), record { rows = x .rows; rest = outside-none _ _ _ })
 
 strike-rule-requires : tie.Need-strike-rule-requires Inv-loop μ-loop
 strike-rule-requires c κs =
@@ -46,7 +46,6 @@ build-rows-spec =
     (tie.spec
     Inv-loop
     μ-loop
-    (λ c. search needs)
     start-rows-requires
     loop-holds
     strike-rule-requires

@@ -6,7 +6,7 @@ use native.Mathlib.Omega.{arith}
 use lib.ListN.{length-take, length-drop}
 use Rattle.sets.specs.Below.{count}
 use Rattle.sets.specs.Sets.{Set}
-use Rattle.vset.specs.Rows.{setAt}
+use Rattle.rows.specs.Rows.{setAt}
 use Rattle.vset.proofs.Count.{count-gap}
 use Rattle.graph.proofs.Rows.{row-ones}
 use Rattle.graph.proofs.degree.Statement.{statement}

@@ -4,7 +4,7 @@ use mathlib.Core.Path.{ap, _∙_}
 use Prim.Native.Nat.{_+_}
 use native.Mathlib.Omega.{arith}
 use Rattle.sets.specs.Sets.{Set, _∖_}
-use Rattle.sheet.specs.Sheet.{linkFirst, linkCount}
+use Rattle.sheet_rows.specs.Rows.{linkFirst, linkCount}
 use Rattle.rules.specs.Layers.{layerOf}
 use Rattle.sheet.proofs.Links.{link-in}
 use Rattle.rules.proofs.Laws.{layer-in, layer-row}
@@ -20,8 +20,8 @@ link-first-requires c κs = let s = c .before .before .before .before .before .b
 link-count-requires : tie.Need-link-count-requires
 link-count-requires c κs = let s = c .before .before .before .before .before .before .before .before in let w = layer-row (s .pre .0) (s .args .u) (s .pre .2) in omega arith
 
-copy-row-requires : tie.Need-copy-row-requires
-copy-row-requires c κs =
+copy-requires : tie.Need-copy-requires
+copy-requires c κs =
     let s = c .before .before .before .before .before .before .before .before .before .before in
     let b = c .before .before .before .before .row-at .ensures in
     let f = s .pre .1 in
@@ -37,7 +37,7 @@ take-span-requires c κs =
     let i = link-in (a .ls .now) (a .k) (a .n) (s .pre .0 .links) _ (layer-in (a .ls .now) (a .k) (a .n) (s .pre .0 .links) (a .u) (s .pre .2) .0) in
     let b = c .before .before .before .before .before .before .before .before .row-at .ensures in
     let f = s .pre .1 in
-    let n = c .before .before .before .copy-row .ensures .rest .len in
+    let n = c .before .before .before .copy .ensures .rest .len in
     (omega arith, omega arith, omega arith)
 
 returns : tie.Need-returns
@@ -50,8 +50,8 @@ returns c =
     let g = rw l at (c .before .before .before .before .before .before .before .before .link-count .ensures .0) in
     let first = linkFirst (a .ls .now) (layerOf (a .ls .now) (a .k) (a .u)) in
     let end = first + linkCount (a .ls .now) (layerOf (a .ls .now) (a .k) (a .u)) in
-    let x = put-then (λ S. S ∖ stretch first end) (c .before .before .before .before .before .before .copy-row .ensures) (rw (e, g) at (c .before .before .take-span .ensures))
-    (ap (λ (S : Set). S ∖ stretch first end) (s .pre .3) ∙ adjacent-none (s .pre .0) (a .u) (s .pre .2)) in
+    let x = put-then (λ S. S ∖ stretch first end) (c .before .before .before .before .before .before .copy .ensures) (rw (e, g) at (c .before .before .take-span .ensures))
+    (ap (λ (S : Set). S ∖ stretch first end) (s .pre .5) ∙ adjacent-none (s .pre .0) (a .u) (s .pre .2)) in
     rw b at x
 
 pub start-row-spec : {M : Type 1} → statement M
@@ -63,7 +63,7 @@ start-row-spec =
     link-first-requires
     link-count-requires
     (λ c. search needs)
-    copy-row-requires
+    copy-requires
     take-span-requires
     (λ c. search needs)
     returns)

@@ -3,7 +3,7 @@ use borrow.Author.Needs.{needs}
 use native.Mathlib.Omega.{arith}
 use Rattle.rules.proofs.Laws.{links-within}
 use Rattle.graph.proofs.Sides.{fits-a, fits-b}
-use Rattle.graph.proofs.Rows.{fit-same, rule-built}
+use Rattle.graph.proofs.Rows.{fit-same, full-a, full-b, rule-built}
 use Rattle.graph.proofs.strike_rule.Statement.{statement}
 use Rattle.graph.proofs.strike_rule.Tie as tie
 
@@ -17,7 +17,7 @@ strike-side-requires : tie.Need-strike-side-requires
 strike-side-requires c κs =
     let s = c .before .before .before .before .before .before .before .before .before in
     let x = rw (c .before .before .before .rule-a .ensures .0, c .before .before .rule-b .ensures .0) at (c .before .side .ensures) in
-    rw x (fits-a (s .pre .0 .0) (s .args .j) (s .pre .0 .2), s .pre .0 .1, omega arith)
+    rw x (fits-a (s .pre .0 .0) (s .args .j) (s .pre .0 .2), s .pre .0 .1, omega arith, full-a (s .pre .0 .0) (s .args .j) (s .pre .0 .2) (s .pre .1))
 
 side-requires-2 : tie.Need-side-requires-2
 side-requires-2 c κs =
@@ -28,8 +28,12 @@ side-requires-2 c κs =
 strike-side-requires-2 : tie.Need-strike-side-requires-2
 strike-side-requires-2 c κs =
     let s = c .before .before .before .before .before .before .before .before .before .before .before .before .before .before in
-    let x = rw (c .before .before .before .before .before .before .before .before .rule-a .ensures .0, c .before .before .before .before .before .before .before .rule-b .ensures .0) at (c .before .side2 .ensures) in
-    rw x (fits-b (s .pre .0 .0) (s .args .j) (s .pre .0 .2), fit-same (s .pre .0 .1) (c .before .before .before .before .strike-side .ensures .rest), omega arith)
+    let ra = c .before .before .before .before .before .before .before .before .rule-a .ensures .0 in
+    let rb = c .before .before .before .before .before .before .before .rule-b .ensures .0 in
+    let x = rw (ra, rb) at (c .before .side2 .ensures) in
+    let y = rw (ra, rb) at (c .before .before .before .before .before .before .side .ensures) in
+    let z = c .before .before .before .before .strike-side .ensures in
+    rw x (fits-b (s .pre .0 .0) (s .args .j) (s .pre .0 .2), fit-same (s .pre .0 .1) (z .rest), omega arith, full-b (s .pre .0 .0) (s .args .j) (s .pre .0 .2) (rw y at z) (s .pre .1))
 
 returns : tie.Need-returns
 returns c =

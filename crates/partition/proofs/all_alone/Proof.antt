@@ -8,7 +8,7 @@ use lib.Dec.{ltb}
 use borrow.Author.Tests.{ltb-true}
 use Rattle.sets.specs.Below.{all}
 use Rattle.sets.proofs.Below.{all-none, all-out, loop-goes-on, loop-stops, loop-ends}
-use Rattle.vset.specs.Rows.{rowAt}
+use Rattle.rows.specs.Rows.{rowAt}
 use Rattle.partition.specs.Partition.{classOf, free}
 use Rattle.partition.specs.Words.{Rows, members}
 use Rattle.partition.proofs.all_alone.Statement.{statement}

@@ -9,7 +9,7 @@ returns c =
     let x = c .before in
     let y = x .before .before in
     let s = y .before .before .before in
-    alone (s .pre .3) (s .pre .4) (y .row-at .ensures) (x .row-at2 .ensures) (c .no-common-rows .ensures)
+    alone (s .pre .3) (s .pre .4) (y .row-at .ensures) (x .row-at2 .ensures) (c .is-empty-common .ensures)
 
 pub is-alone-spec : {M : Type 1} → statement M
 is-alone-spec =
@@ -19,5 +19,5 @@ is-alone-spec =
     (λ c. search needs)  -- shared-slice-read-row-at
     (λ c. search needs)  -- cast-row-at
     (λ c κs. search needs)  -- row-at-requires-2
-    (λ c κs. search needs)  -- no-common-rows-requires
+    (λ c κs. search needs)  -- is-empty-common-requires
     returns)

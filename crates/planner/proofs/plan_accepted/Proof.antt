@@ -9,12 +9,12 @@ use Rattle.planner.proofs.plan_accepted.Tie as tie
 slice-aggregate-plan-parts : tie.Need-slice-aggregate-plan-parts
 slice-aggregate-plan-parts c =
     let h = c .before .before .before .before .before .pre .0 in
-    sym (length-take-le _ _ (omega (arith, h .freqs, h .accepted .n-small)))
+    sym (length-take-le _ _ (omega (arith, h .freqs, h .accepted .head .n-small)))
 
 slice-aggregate-plan-parts-2 : tie.Need-slice-aggregate-plan-parts-2
 slice-aggregate-plan-parts-2 c =
     let h = c .before .before .before .before .before .before .pre .0 in
-    sym (length-take-le _ _ (omega (arith, h .links, h .accepted .k-small)))
+    sym (length-take-le _ _ (omega (arith, h .links, h .accepted .head .k-small)))
 
 plan-parts-requires : tie.Need-plan-parts-requires
 plan-parts-requires c κs =
@@ -23,8 +23,8 @@ plan-parts-requires c κs =
       h,
       record {
         small = r .small;
-        classes = length-take-le _ _ (omega (arith, h .freqs, h .accepted .n-small));
-        vertices = length-take-le _ _ (omega (arith, h .links, h .accepted .k-small));
+        classes = length-take-le _ _ (omega (arith, h .freqs, h .accepted .head .n-small));
+        vertices = length-take-le _ _ (omega (arith, h .links, h .accepted .head .k-small));
         enough = r .enough;
         zero = r .zero;
         words = r .words;

@@ -1,9 +1,13 @@
 -- The sheet was accepted: from `check_sheet` and the number of its answer.
 use borrow.Author.Needs.{needs}
 use denote.Ref.{now}
+use lib.ListN.{length}
+use lib.Dec.{leb}
 use mathlib.Core.Path.{_∙_, _≡_, sym}
+use mathlib.Core.Bool.{true}
 use borrow.Author.Tests.{le-leb, lt-leb, ne-eqb}
 use native.Mathlib.Omega.{arith}
+use Rattle.sheet.specs.Sheet.{kOf}
 use Rattle.sheet.specs.Refusal.{refusal}
 use Rattle.sheet.proofs.Accepted.{accepted}
 use Rattle.rules.specs.Plans.{checked}
@@ -12,6 +16,11 @@ use Rattle.rules.proofs.check_plan.Tie as tie
 
 fine : (c : tie.Else1) → refusal (now (c .before .before .before .before .before .args .s)) ≡ 0
 fine c = sym (c .before .before .check-sheet .ensures) ∙ sym (c .before .number .ensures) ∙ c .if1 .left
+
+enough : (c : tie.Else2) → let a = c .before .before .before .before .before .before .before .args in leb (kOf (now (a .s))) (length (now (a .cells))) ≡ true
+enough c =
+    let a = c .before .before .before .before .before .before .before .args in
+    le-leb (kOf (now (a .s))) (length (now (a .cells))) (omega arith)
 
 returns : tie.Need-returns
 unfolding checked
@@ -22,7 +31,9 @@ word-requires c κs = let h = accepted _ (fine c) in omega arith
 
 returns-2 : tie.Need-returns-2
 unfolding checked
-returns-2 c = rw (fine (c .before .before), ← c .before .word .ensures .0, lt-leb _ _ (c .if2 .taken))
+returns-2 c =
+    let a = c .before .before .before .before .before .before .before .args in
+    rw (fine (c .before .before), lt-leb (kOf (now (a .s))) (length (now (a .cells))) (omega arith))
 
 word-requires-2 : tie.Need-word-requires-2
 word-requires-2 c κs = let h = accepted _ (fine (c .before .before)) in omega arith
@@ -35,15 +46,14 @@ word-requires-4 c κs = let h = accepted _ (fine (c .before .before .before .bef
 
 keeps-sheet-requires : tie.Need-keeps-sheet-requires
 keeps-sheet-requires c κs =
-    (accepted _ (fine (c .before .before .before .before .before)), c .before .before .before .before .word .ensures .0, c .before .before .word2 .ensures .0, c .before .word3 .ensures .0, c .word4 .ensures .0, c .before .before .before .if2 .left)
+    (accepted _ (fine (c .before .before .before .before .before)), c .before .before .before .before .word .ensures .0, c .before .before .word2 .ensures .0, c .before .word3 .ensures .0, c .word4 .ensures .0, omega arith)
 
 returns-3 : tie.Need-returns-3
 unfolding checked
 returns-3 c =
     rw (
       fine (c .before .before .before .before .before .before .before),
-      ← c .before .before .before .before .before .before .word .ensures .0,
-      le-leb _ _ (c .before .before .before .before .before .if2 .left),
+      enough (c .before .before .before .before .before),
       ← c .before .keeps-sheet .ensures,
       c .if3 .taken,
     )
@@ -53,8 +63,7 @@ unfolding checked
 returns-4 c =
     rw (
       fine (c .before .before .before .before .before .before .before),
-      ← c .before .before .before .before .before .before .word .ensures .0,
-      le-leb _ _ (c .before .before .before .before .before .if2 .left),
+      enough (c .before .before .before .before .before),
       ← c .before .keeps-sheet .ensures,
       c .if3 .left,
     )

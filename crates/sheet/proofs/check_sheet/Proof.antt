@@ -6,7 +6,8 @@ use mathlib.Core.Bool.{true}
 use borrow.Author.Tests.{not-false, not-true}
 use native.Mathlib.Omega.{arith}
 use Rattle.sheet.specs.Refusal.{countsOk, formOk, linkCountOk, offsetsOk, refusal}
-use Rattle.sheet.proofs.Accepted.{Head, form-long, head-is}
+use Rattle.sheet.specs.Accepted.{Head}
+use Rattle.sheet.proofs.Accepted.{form-long, head-is}
 use Rattle.sheet.proofs.check_sheet.Statement.{statement}
 use Rattle.sheet.proofs.check_sheet.Tie as tie
 

@@ -4,7 +4,7 @@ use borrow.Author.Needs.{needs}
 use borrow.Author.Tests.{not-true, not-false}
 use Prim.Native.Nat.{_+_, _*_}
 use Rattle.sets.specs.Below.{one, count}
-use Rattle.vset.specs.Rows.{setAt}
+use Rattle.rows.specs.Rows.{setAt}
 use Rattle.filters.proofs.FailedRows.{Rounding, rounding-start, rounding-all, rounding-shut, round-shut, round-less, round-more}
 use Rattle.filters.proofs.failed_rows.failed.Statement.{statement}
 use Rattle.filters.proofs.failed_rows.failed.Tie as tie

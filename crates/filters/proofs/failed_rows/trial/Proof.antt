@@ -3,12 +3,12 @@ use borrow.Author.Needs.{needs}
 use native.Mathlib.Omega.{arith}
 use Rattle.sets.proofs.Sets.{meet-l}
 use Rattle.filters.proofs.TrialRows.{trial-stands, trial-struck, trial-shut}
-use Rattle.filters.proofs.Masks.{row-member}
+use Rattle.rows.proofs.Rows.{row-member}
 use Rattle.filters.proofs.failed_rows.trial.Statement.{statement}
 use Rattle.filters.proofs.failed_rows.trial.Tie as tie
 
-add-to-row-requires : tie.Need-add-to-row-requires
-add-to-row-requires c κs =
+insert-requires : tie.Need-insert-requires
+insert-requires c κs =
     let s = c .before .before .before .before .before .before .before in
     (search needs, row-member _ _ 0 _ (meet-l _ _ _ (s .pre .3 .live)))
 
@@ -20,11 +20,11 @@ returns c =
     let r = x .before .before in
     let s = r .before .before in
     let q = s .pre .0 in
-    trial-stands (s .args .a) (q .masks-after) (q .graph-after) (q .wide) (omega (arith, q, x .cut-rows .kept .0, y .add-to-row .kept .0)) (s .pre .1) (s .pre .2)
-    (r .row-at .ensures .here) (s .pre .3) (x .cut-rows .ensures) (y .add-to-row .ensures) (z .unit-steps .ensures .0) (c .if1 .taken)
+    trial-stands (s .args .a) (q .masks-after) (q .graph-after) (q .wide) (omega (arith, q, x .cut .kept .0, y .insert .kept .0)) (s .pre .1) (s .pre .2)
+    (r .row-at .ensures .here) (s .pre .3) (x .cut .ensures) (y .insert .ensures) (z .unit-steps .ensures .0) (c .if1 .taken)
 
-take-from-row-requires : tie.Need-take-from-row-requires
-take-from-row-requires c κs =
+remove-requires : tie.Need-remove-requires
+remove-requires c κs =
     let z = c .before .before .before .before in
     let s = z .before .before .before .before .before .before .before .before .before .before .before .before in
     (search needs, row-member _ _ 0 _ (meet-l _ _ _ (s .pre .3 .live)))
@@ -40,9 +40,9 @@ returns-2 c =
     let r = x .before .before in
     let s = r .before .before in
     let q = s .pre .0 in
-    trial-struck (s .args .a) (q .masks-after) (q .graph-after) (q .wide) (omega (arith, q, x .cut-rows .kept .0, y .add-to-row .kept .0)) (s .pre .1) (s .pre .2)
-    (r .row-at .ensures .here) (s .pre .3) (x .cut-rows .ensures) (y .add-to-row .ensures) (z .unit-steps .ensures .0)
-    (i .if1 .left) (v .take-from-row .ensures) (u .unit-steps2 .ensures .0) (c .if2 .taken) (u .unit-steps2 .ensures .1)
+    trial-struck (s .args .a) (q .masks-after) (q .graph-after) (q .wide) (omega (arith, q, x .cut .kept .0, y .insert .kept .0)) (s .pre .1) (s .pre .2)
+    (r .row-at .ensures .here) (s .pre .3) (x .cut .ensures) (y .insert .ensures) (z .unit-steps .ensures .0)
+    (i .if1 .left) (v .remove .ensures) (u .unit-steps2 .ensures .0) (c .if2 .taken) (u .unit-steps2 .ensures .1)
 
 returns-3 : tie.Need-returns-3
 returns-3 c =
@@ -55,9 +55,9 @@ returns-3 c =
     let r = x .before .before in
     let s = r .before .before in
     let q = s .pre .0 in
-    trial-shut (s .args .a) (q .masks-after) (q .graph-after) (q .wide) (omega (arith, q, x .cut-rows .kept .0, y .add-to-row .kept .0)) (s .pre .1) (s .pre .2)
-    (r .row-at .ensures .here) (s .pre .3) (x .cut-rows .ensures) (y .add-to-row .ensures) (z .unit-steps .ensures .0)
-    (i .if1 .left) (v .take-from-row .ensures) (u .unit-steps2 .ensures .0) (c .if2 .left)
+    trial-shut (s .args .a) (q .masks-after) (q .graph-after) (q .wide) (omega (arith, q, x .cut .kept .0, y .insert .kept .0)) (s .pre .1) (s .pre .2)
+    (r .row-at .ensures .here) (s .pre .3) (x .cut .ensures) (y .insert .ensures) (z .unit-steps .ensures .0)
+    (i .if1 .left) (v .remove .ensures) (u .unit-steps2 .ensures .0) (c .if2 .left)
 
 pub trial-spec : {M : Type 1} → statement M
 trial-spec =
@@ -65,7 +65,7 @@ trial-spec =
     (tie.spec
     (λ c κs. search needs)
     (λ c κs. search needs)
-    add-to-row-requires
+    insert-requires
     (λ c. search needs)
     (λ c. search needs)
     (λ c. search needs)
@@ -75,7 +75,7 @@ trial-spec =
     (λ c κs. search needs)
     (λ c. search needs)
     returns
-    take-from-row-requires
+    remove-requires
     (λ c κs. search needs)
     (λ c. search needs)
     returns-2

@@ -16,7 +16,7 @@ returns c =
     let y = c .before in
     let r = y .before .before in
     let s = r .before .before in
-    class-none (counted (s .args .w) (s .args .part .now) (s .pre .0) (s .pre .2) (r .row-at .ensures) (y .size-of-common-rows .ensures)) (c .if1 .taken)
+    class-none (counted (s .args .w) (s .args .part .now) (s .pre .0) (s .pre .2) (r .row-at .ensures) (y .size-common .ensures)) (c .if1 .taken)
 
 trial-requires : tie.Need-trial-requires
 trial-requires c κs =
@@ -25,8 +25,8 @@ trial-requires c κs =
     let y = i .before in
     let r = y .before .before in
     let s = r .before .before in
-    let C = counted (s .args .w) (s .args .part .now) (s .pre .0) (s .pre .2) (r .row-at .ensures) (y .size-of-common-rows .ensures) in
-    (s .pre .0, s .pre .1, s .pre .2, lower-one C (i .if1 .left) (x .next-in-common-rows .ensures))
+    let C = counted (s .args .w) (s .args .part .now) (s .pre .0) (s .pre .2) (r .row-at .ensures) (y .size-common .ensures) in
+    (s .pre .0, s .pre .1, s .pre .2, lower-one C (i .if1 .left) (x .next-common .ensures))
 
 returns-2 : tie.Need-returns-2
 returns-2 c =
@@ -35,8 +35,8 @@ returns-2 c =
     let y = x .before .before .before in
     let r = y .before .before in
     let s = r .before .before in
-    let C = counted (s .args .w) (s .args .part .now) (s .pre .0) (s .pre .2) (r .row-at .ensures) (y .size-of-common-rows .ensures) in
-    lower-over C (x .next-in-common-rows .result) (λ e. not-open false e) (rw (c .enum-told .given .1) at (t .trial .ensures))
+    let C = counted (s .args .w) (s .args .part .now) (s .pre .0) (s .pre .2) (r .row-at .ensures) (y .size-common .ensures) in
+    lower-over C (x .next-common .result) (λ e. not-open false e) (rw (c .enum-told .given .1) at (t .trial .ensures))
 
 returns-3 : tie.Need-returns-3
 returns-3 c =
@@ -46,22 +46,22 @@ returns-3 c =
     let y = x .before .before .before in
     let r = y .before .before in
     let s = r .before .before in
-    let C = counted (s .args .w) (s .args .part .now) (s .pre .0) (s .pre .2) (r .row-at .ensures) (y .size-of-common-rows .ensures) in
-    lower-over C (x .next-in-common-rows .result) (λ e. clash true refl (open-is true false e)) (rw (g .struck .given .1 ∙ ap Open (c .if2 .taken)) at (t .trial .ensures))
+    let C = counted (s .args .w) (s .args .part .now) (s .pre .0) (s .pre .2) (r .row-at .ensures) (y .size-common .ensures) in
+    lower-over C (x .next-common .result) (λ e. clash true refl (open-is true false e)) (rw (g .struck .given .1 ∙ ap Open (c .if2 .taken)) at (t .trial .ensures))
 
-add-next-in-common-rows : tie.Need-add-next-in-common-rows
-add-next-in-common-rows c =
+add-next-common : tie.Need-add-next-common
+add-next-common c =
     let x = c .before .before .before .before .before .before .before .before .before in
     let i = x .before .before in
     let y = i .before in
     let r = y .before .before in
     let s = r .before .before in
-    let C = counted (s .args .w) (s .args .part .now) (s .pre .0) (s .pre .2) (r .row-at .ensures) (y .size-of-common-rows .ensures) in
-    let l = lower-inside C (i .if1 .left) (x .next-in-common-rows .ensures) in
+    let C = counted (s .args .w) (s .args .part .now) (s .pre .0) (s .pre .2) (r .row-at .ensures) (y .size-common .ensures) in
+    let l = lower-inside C (i .if1 .left) (x .next-common .ensures) in
     omega (arith, s .pre .0 .small)
 
-next-in-common-rows-requires-2 : tie.Need-next-in-common-rows-requires-2
-next-in-common-rows-requires-2 c κs =
+next-common-requires-2 : tie.Need-next-common-requires-2
+next-common-requires-2 c κs =
     let t = c .before .before .before .before .before .before .before in
     let x = t .before .before in
     let i = x .before .before in
@@ -69,8 +69,8 @@ next-in-common-rows-requires-2 c κs =
     let r = y .before .before in
     let s = r .before .before in
     let q = s .pre .0 in
-    let C = counted (s .args .w) (s .args .part .now) q (s .pre .2) (r .row-at .ensures) (y .size-of-common-rows .ensures) in
-    let l = lower-inside C (i .if1 .left) (x .next-in-common-rows .ensures) in
+    let C = counted (s .args .w) (s .args .part .now) q (s .pre .2) (r .row-at .ensures) (y .size-common .ensures) in
+    let l = lower-inside C (i .if1 .left) (x .next-common .ensures) in
     (omega (arith, q, t .trial .kept .0), omega (arith, q, t .trial .kept .0, r .row-at .ensures), q .small, omega arith)
 
 trial-requires-2 : tie.Need-trial-requires-2
@@ -84,11 +84,11 @@ trial-requires-2 c κs =
     let y = i .before in
     let r = y .before .before in
     let s = r .before .before in
-    let C = counted (s .args .w) (s .args .part .now) (s .pre .0) (s .pre .2) (r .row-at .ensures) (y .size-of-common-rows .ensures) in (
+    let C = counted (s .args .w) (s .args .part .now) (s .pre .0) (s .pre .2) (r .row-at .ensures) (y .size-common .ensures) in (
       search needs,
       s .pre .1,
       s .pre .2,
-      higher-one C (i .if1 .left) (x .next-in-common-rows .ensures) (rw (g .struck .given .1 ∙ ap Open (o .if2 .left)) at (t .trial .ensures)) (z .next-in-common-rows2 .ensures),
+      higher-one C (i .if1 .left) (x .next-common .ensures) (rw (g .struck .given .1 ∙ ap Open (o .if2 .left)) at (t .trial .ensures)) (z .next-common2 .ensures),
     )
 
 returns-4 : tie.Need-returns-4
@@ -103,8 +103,8 @@ returns-4 c =
     let y = i .before in
     let r = y .before .before in
     let s = r .before .before in
-    let C = counted (s .args .w) (s .args .part .now) (s .pre .0) (s .pre .2) (r .row-at .ensures) (y .size-of-common-rows .ensures) in
-    both-tried C (i .if1 .left) (x .next-in-common-rows .ensures) (rw (g .struck .given .1 ∙ ap Open (o .if2 .left)) at (t .trial .ensures)) (z .next-in-common-rows2 .ensures)
+    let C = counted (s .args .w) (s .args .part .now) (s .pre .0) (s .pre .2) (r .row-at .ensures) (y .size-common .ensures) in
+    both-tried C (i .if1 .left) (x .next-common .ensures) (rw (g .struck .given .1 ∙ ap Open (o .if2 .left)) at (t .trial .ensures)) (z .next-common2 .ensures)
     (t₂ .trial2 .result) (t₂ .trial2 .ensures)
 
 pub try-class-spec : {M : Type 1} → statement M
@@ -123,8 +123,8 @@ try-class-spec =
     returns-2
     (λ c. search needs)
     returns-3
-    add-next-in-common-rows
-    next-in-common-rows-requires-2
+    add-next-common
+    next-common-requires-2
     trial-requires-2
     (λ c. search needs)
     returns-4)

@@ -22,7 +22,7 @@ loop-again c =
     let i = r .before in
     let l = i .before in
     let s = l .before .before in
-    layering-more (s .pre .masks-after) (s .pre .graph-after) (l .loop .inv) (i .loop-test .taken) (r .row-at .ensures .here) (x .copy-row .ensures) (y .strike-unreached .ensures)
+    layering-more (s .pre .masks-after) (s .pre .graph-after) (l .loop .inv) (i .loop-test .taken) (r .row-at .ensures .here) (x .copy .ensures) (y .strike-unreached .ensures)
 
 returns : tie.Need-returns Inv-loop μ-loop
 returns c =

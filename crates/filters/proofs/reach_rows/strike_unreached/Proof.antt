@@ -10,7 +10,7 @@ returns c =
     let y = z .before .before .before .before in
     let x = y .before .before .before .before in
     let s = x .before .before .before in
-    struck (s .pre .0) (s .pre .2) (x .meet-rows .ensures) (y .add-neighbours .ensures) (z .meet-rows2 .ensures)
+    struck (s .pre .0) (s .pre .2) (x .meet .ensures) (y .add-neighbours .ensures) (z .meet2 .ensures)
 
 pub strike-unreached-spec : {M : Type 1} → statement M
 strike-unreached-spec =

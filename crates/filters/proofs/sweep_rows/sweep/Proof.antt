@@ -14,7 +14,7 @@ abbrev μ-loop : tie.MeasureT-loop
 μ-loop part₀ w masks graph n k d a e₀ part e = k - e
 
 loop-holds : tie.Need-loop-holds Inv-loop μ-loop
-loop-holds c = let x = c .before .before in sweeping-none (x .before .before .before .pre .1) (x .clear-row .ensures .here)
+loop-holds c = let x = c .before .before in sweeping-none (x .before .before .before .pre .1) (x .clear .ensures .here)
 
 loop-again : tie.Need-loop-again Inv-loop μ-loop
 loop-again c =
@@ -32,7 +32,7 @@ returns c =
     let s = l .before .before .before .before .before .before in
     let a = s .pre .0 .masks-after in
     let b = s .pre .0 .graph-after in
-    filtered-before a b (omega arith) (omega arith) (l .before .before .before .clear-row .ensures .rest)
+    filtered-before a b (omega arith) (omega arith) (l .before .before .before .clear .ensures .rest)
     (sweeping-all a b (l .loop .inv) (i .loop-test .left) (c .is-open .ensures))
 
 pub sweep-spec : {M : Type 1} → statement M

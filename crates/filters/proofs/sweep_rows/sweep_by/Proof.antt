@@ -10,7 +10,7 @@ returns c =
     let y = z .before .before .before .before in
     let x = y .before .before .before .before in
     let s = x .before .before .before in
-    swept-by (s .pre .0) (s .pre .2) (x .join-rows .ensures) (y .copy-row .ensures) (z .strike-unreached .ensures)
+    swept-by (s .pre .0) (s .pre .2) (x .join .ensures) (y .copy .ensures) (z .strike-unreached .ensures)
 
 pub sweep-by-spec : {M : Type 1} → statement M
 sweep-by-spec =

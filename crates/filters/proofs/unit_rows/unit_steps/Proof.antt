@@ -6,7 +6,7 @@ use mathlib.Core.Path.{refl}
 use Prim.Native.Nat.{_+_, _*_}
 use Rattle.sets.specs.Below.{one, count}
 use Rattle.sets.proofs.Tests.{clash}
-use Rattle.vset.specs.Rows.{setAt}
+use Rattle.rows.specs.Rows.{setAt}
 use Rattle.filters.proofs.UnitRows.{Passing, passing-start, passing-shut, passing-less, passing-more, passing-all}
 use Rattle.filters.proofs.unit_rows.unit_steps.Statement.{statement}
 use Rattle.filters.proofs.unit_rows.unit_steps.Tie as tie

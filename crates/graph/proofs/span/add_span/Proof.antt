@@ -4,7 +4,7 @@ use Prim.Native.Nat.{_-_, _≤_}
 use mathlib.Core.Path.{_≡_}
 use native.Mathlib.Omega.{arith}
 use Rattle.sets.specs.Sets.{_∪_}
-use Rattle.vset.specs.Rows.{setAt, Put}
+use Rattle.rows.specs.Rows.{setAt, Put}
 use Rattle.graph.specs.Strikes.{stretch}
 use Rattle.graph.proofs.Spans.{added-none, added-more}
 use Rattle.graph.proofs.span.add_span.Statement.{statement}
@@ -19,13 +19,13 @@ abbrev μ-loop : tie.MeasureT-loop
 loop-holds : tie.Need-loop-holds Inv-loop μ-loop
 loop-holds c = (search needs, search needs, added-none _ _ _ _)
 
-add-to-row-requires : tie.Need-add-to-row-requires Inv-loop μ-loop
-add-to-row-requires c κs = search needs
+insert-requires : tie.Need-insert-requires Inv-loop μ-loop
+insert-requires c κs = search needs
 
 loop-again : tie.Need-loop-again Inv-loop μ-loop
 loop-again c =
     let l = c .before .before .before .before .before .loop in
-    (search needs, search needs, added-more _ _ (l .inv .0) (l .inv .2) (c .before .before .add-to-row .ensures))
+    (search needs, search needs, added-more _ _ (l .inv .0) (l .inv .2) (c .before .before .insert .ensures))
 
 same-length : tie.Need-same-length Inv-loop μ-loop
 same-length c = c .before .loop .inv .2 .rest .len
@@ -40,7 +40,7 @@ add-span-spec =
     Inv-loop
     μ-loop
     loop-holds
-    add-to-row-requires
+    insert-requires
     (λ c. search needs)
     (λ c. search needs)
     loop-again

@@ -4,7 +4,7 @@ use Prim.Native.Nat.{_-_, _≤_}
 use mathlib.Core.Path.{_≡_}
 use native.Mathlib.Omega.{arith}
 use Rattle.sets.specs.Sets.{_∖_}
-use Rattle.vset.specs.Rows.{setAt, Put}
+use Rattle.rows.specs.Rows.{setAt, Put}
 use Rattle.graph.specs.Strikes.{stretch}
 use Rattle.graph.proofs.Spans.{taken-none, taken-more}
 use Rattle.graph.proofs.span.take_span.Statement.{statement}
@@ -19,13 +19,13 @@ abbrev μ-loop : tie.MeasureT-loop
 loop-holds : tie.Need-loop-holds Inv-loop μ-loop
 loop-holds c = (search needs, search needs, taken-none _ _ _ _)
 
-take-from-row-requires : tie.Need-take-from-row-requires Inv-loop μ-loop
-take-from-row-requires c κs = search needs
+remove-requires : tie.Need-remove-requires Inv-loop μ-loop
+remove-requires c κs = search needs
 
 loop-again : tie.Need-loop-again Inv-loop μ-loop
 loop-again c =
     let l = c .before .before .before .before .before .loop in
-    (search needs, search needs, taken-more _ _ (l .inv .0) (l .inv .2) (c .before .before .take-from-row .ensures))
+    (search needs, search needs, taken-more _ _ (l .inv .0) (l .inv .2) (c .before .before .remove .ensures))
 
 same-length : tie.Need-same-length Inv-loop μ-loop
 same-length c = c .before .loop .inv .2 .rest .len
@@ -40,7 +40,7 @@ take-span-spec =
     Inv-loop
     μ-loop
     loop-holds
-    take-from-row-requires
+    remove-requires
     (λ c. search needs)
     (λ c. search needs)
     loop-again

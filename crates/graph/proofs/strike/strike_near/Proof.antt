@@ -4,7 +4,7 @@ use Prim.Native.Nat.{_-_, _≤_}
 use mathlib.Core.Path.{_≡_}
 use native.Mathlib.Omega.{arith}
 use Rattle.sets.specs.Sets.{_∩_, _∖_}
-use Rattle.vset.specs.Rows.{setAt, Put}
+use Rattle.rows.specs.Rows.{setAt, Put}
 use Rattle.graph.specs.Strikes.{stretch, clashing}
 use Rattle.graph.proofs.Spans.{struck-none, struck-more}
 use Rattle.graph.proofs.strike.strike_near.Statement.{statement}

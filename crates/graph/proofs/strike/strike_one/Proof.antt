@@ -17,7 +17,7 @@ unfolding clashing
 returns-2 c =
     let y = c .before .before .before .before in
     let x = y .before in
-    struck-yes _ _ (rw (← x .before .before .freq .ensures .0, ← x .before .distance .ensures, ← x .agree .ensures, y .if1 .left) refl) (c .before .before .take-from-row .ensures)
+    struck-yes _ _ (rw (← x .before .before .freq .ensures .0, ← x .before .distance .ensures, ← x .agree .ensures, y .if1 .left) refl) (c .before .before .remove .ensures)
 
 pub strike-one-spec : {M : Type 1} → statement M
 strike-one-spec =

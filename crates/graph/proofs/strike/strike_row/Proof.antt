@@ -1,35 +1,30 @@
--- `graph::strike::strike_row` meets its contract. By kind: the spare row is what the rule bars, or the row is struck in place.
+-- `graph::strike::strike_row` meets its contract. By kind, what the rule bars is struck from the row.
 use borrow.Author.Needs.{needs}
 use mathlib.Core.Path.{ap}
 use native.Mathlib.Omega.{arith}
 use Rattle.sets.specs.Sets.{Set, _∖_}
-use Rattle.vset.specs.Rows.{setAt}
+use Rattle.rows.specs.Rows.{setAt}
 use Rattle.graph.specs.Strikes.{barred}
 use Rattle.graph.proofs.Spans.{put-as}
-use Rattle.graph.proofs.Strikes.{barred-listed, barred-plain, row-struck, row-cut}
+use Rattle.graph.proofs.Strikes.{barred-listed, barred-plain, row-struck}
 use Rattle.graph.proofs.strike.strike_row.Statement.{statement}
 use Rattle.graph.proofs.strike.strike_row.Tie as tie
 
-mark-unlisted-requires : tie.Need-mark-unlisted-requires
-mark-unlisted-requires c κs =
+strike-unlisted-requires : tie.Need-strike-unlisted-requires
+strike-unlisted-requires c κs =
     let s = c .before .before .before .before .before .before .before in
     let f = s .pre .1 in
-    (s .pre .0, c .before .before .if1 .taken, f .wide, f .small, omega arith)
-
-cut-rows-requires : tie.Need-cut-rows-requires
-cut-rows-requires c κs =
-    let s = c .before .before .before .before .before .before .before .before .before .before .before in
-    let f = s .pre .1 in
-    let b = c .before .before .before .before .before .before .before .row-at .ensures in
-    let e = c .before .before .before .mark-unlisted .ensures .rest .len in
-    (omega arith, (record { fits = omega arith; clear = λ h. absurd (omega arith) }, record { fits = omega arith; clear = λ h. omega arith }))
+    let b = c .before .before .before .row-at .ensures in
+    (s .pre .0, c .before .before .if1 .taken, f .wide, f .small, omega arith, rw (b .here) (s .pre .4))
 
 returns : tie.Need-returns
 returns c =
-    let s = c .before .before .before .before .before .before .before .before .before .before .before .before .before .before in
+    let s = c .before .before .before .before .before .before .before .before .before .before in
     let a = s .args in
-    row-cut _ _ _ _ _ (a .u) _ (s .pre .1) (s .pre .3) (c .before .before .before .before .before .before .before .before .before .before .row-at .ensures .here) (c .before .before .before .before .before .before .mark-unlisted .ensures) (c .before .before .cut-rows .ensures)
-    (barred-listed (a .fs .now) (a .ps .now) (a .s) (a .u) (c .before .before .before .before .before .before .before .before .before .if1 .taken))
+    let r = c .before .before .before .before .before .before in
+    row-struck (barred (a .fs .now) (a .ps .now) (a .s)) _ _ _ (a .u) _ (s .pre .3) (r .row-at .ensures .here)
+    (put-as (ap (λ (X : Set). setAt (a .part .now) (a .w) (r .row-at .result) ∖ X) (barred-listed (a .fs .now) (a .ps .now) (a .s) (a .u) (c .before .before .before .before .before .if1 .taken)))
+    (c .before .before .strike-unlisted .ensures))
 
 strike-near-requires : tie.Need-strike-near-requires
 strike-near-requires c κs =
@@ -43,8 +38,9 @@ returns-2 : tie.Need-returns-2
 returns-2 c =
     let s = c .before .before .before .before .before .before .before .before .before .before in
     let a = s .args in
-    row-struck (barred (a .fs .now) (a .ps .now) (a .s)) _ _ _ _ (a .u) _ (s .pre .1) (s .pre .3) (c .before .before .before .before .before .before .row-at .ensures .here)
-    (put-as (ap (λ (X : Set). setAt (a .part .now) (a .w) (c .before .before .before .before .before .before .row-at .result) ∖ X) (barred-plain (a .fs .now) (a .ps .now) (a .s) (a .u) (c .before .before .before .before .before .if1 .left)))
+    let r = c .before .before .before .before .before .before in
+    row-struck (barred (a .fs .now) (a .ps .now) (a .s)) _ _ _ (a .u) _ (s .pre .3) (r .row-at .ensures .here)
+    (put-as (ap (λ (X : Set). setAt (a .part .now) (a .w) (r .row-at .result) ∖ X) (barred-plain (a .fs .now) (a .ps .now) (a .s) (a .u) (c .before .before .before .before .before .if1 .left)))
     (rw (c .before .before .before .freq .ensures .0) at (c .before .before .strike-near .ensures)))
 
 pub strike-row-spec : {M : Type 1} → statement M
@@ -53,8 +49,7 @@ strike-row-spec =
     (tie.spec
     (λ c κs. search needs)
     (λ c. search needs)
-    mark-unlisted-requires
-    cut-rows-requires
+    strike-unlisted-requires
     (λ c. search needs)
     returns
     (λ c κs. search needs)

@@ -16,14 +16,14 @@ loop-holds : tie.Need-loop-holds Inv-loop μ-loop
 loop-holds c =
     let x = c .before .before in
     let s = x .before .before .before .before in
-    filling-none (x .clear-row .ensures) (s .pre .1)
+    filling-none (x .clear .ensures) (s .pre .1)
 
 try-join-requires : tie.Need-try-join-requires Inv-loop μ-loop
 try-join-requires c κs =
     let x = c .before .before .before .before in
     let y = x .before .before .before in
     let s = y .before .before .before .before in
-    (space-stays (x .loop .inv .rest) (space-stays (y .clear-row .ensures .rest) (s .pre .0)), x .loop .inv .long, s .pre .3)
+    (space-stays (x .loop .inv .rest) (space-stays (y .clear .ensures .rest) (s .pre .0)), x .loop .inv .long, s .pre .3)
 
 loop-again : tie.Need-loop-again Inv-loop μ-loop
 loop-again c =
@@ -32,14 +32,14 @@ loop-again c =
     let z = y .before in
     let x₁ = z .before .before .before in
     let s = x₁ .before .before .before .before in
-    filling-more (z .loop .inv) (space-stays (x₁ .clear-row .ensures .rest) (s .pre .0)) (s .pre .2) (y .loop-test .taken) refl (x .try-join .ensures) (search needs)
+    filling-more (z .loop .inv) (space-stays (x₁ .clear .ensures .rest) (s .pre .0)) (s .pre .2) (y .loop-test .taken) refl (x .try-join .ensures) (search needs)
 
 returns : tie.Need-returns Inv-loop μ-loop
 returns c =
     let x = c .before in
     let y = x .before .before .before in
     let s = y .before .before .before .before in
-    filling-all (x .loop .inv) (space-stays (y .clear-row .ensures .rest) (s .pre .0)) (s .pre .2) (c .loop-test .left) (y .clear-row .ensures .rest)
+    filling-all (x .loop .inv) (space-stays (y .clear .ensures .rest) (s .pre .0)) (s .pre .2) (c .loop-test .left) (y .clear .ensures .rest)
 
 pub fill-class-spec : {M : Type 1} → statement M
 fill-class-spec =
@@ -47,8 +47,8 @@ fill-class-spec =
     (tie.spec
     Inv-loop
     μ-loop
-    (λ c. search needs)  -- add-clear-row
-    (λ c κs. search needs)  -- clear-row-requires
+    (λ c. search needs)  -- add-clear
+    (λ c κs. search needs)  -- clear-requires
     loop-holds
     (λ c. search needs)  -- add-v
     (λ c. search needs)  -- mul-v

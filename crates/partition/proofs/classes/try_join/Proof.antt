@@ -18,8 +18,8 @@ returns-3 c =
     let x = c .before in
     let y = x .before .before in
     let z = y .before .before .before in
-    let r = x .no-common-rows .result in
-    left-out (λ adj R e. join-barred _ _ adj _ _ _ (sym (free-is _ _ _ _ (z .if1 .left) (y .row-at .ensures .here) R e (x .no-common-rows .ensures)) ∙ not-true r (c .if3 .taken)))
+    let r = x .is-empty-common .result in
+    left-out (λ adj R e. join-barred _ _ adj _ _ _ (sym (free-is _ _ _ _ (z .if1 .left) (y .row-at .ensures .here) R e (x .is-empty-common .ensures)) ∙ not-true r (c .if3 .taken)))
 
 returns-4 : tie.Need-returns-4
 returns-4 c =
@@ -30,9 +30,9 @@ returns-4 c =
     let y₁ = x₁ .before in
     let z₁ = y₁ .before .before in
     let s = z₁ .before .before .before in
-    let r = z .no-common-rows .result in
+    let r = z .is-empty-common .result in
     taken-in (z₁ .if1 .left) (s .pre .1) (y₁ .if2 .left)
-    (λ adj R e. sym (free-is _ _ _ _ (z₁ .if1 .left) (x₁ .row-at .ensures .here) R e (z .no-common-rows .ensures)) ∙ not-false r (y .if3 .left))
+    (λ adj R e. sym (free-is _ _ _ _ (z₁ .if1 .left) (x₁ .row-at .ensures .here) R e (z .is-empty-common .ensures)) ∙ not-false r (y .if3 .left))
     (x .take-in .ensures .0) (x .take-in .ensures .1)
 
 pub try-join-spec : {M : Type 1} → statement M
@@ -45,7 +45,7 @@ try-join-spec =
     (λ c. left-out (λ adj R e. join-placed _ _ adj _ _ _ (c .if2 .taken)))  -- returns-2
     (λ c κs. search needs)  -- row-at-requires
     (λ c. search needs)  -- add-own
-    (λ c κs. search needs)  -- no-common-rows-requires
+    (λ c κs. search needs)  -- is-empty-common-requires
     (λ c. search needs)  -- same-length
     returns-3
     (λ c κs. search needs)  -- take-in-requires

@@ -9,7 +9,7 @@ returns-2 c =
     let x = c .before .before in
     let y = x .before .before in
     let z = y .before in
-    marked (z .if1 .left) (y .row-at .ensures) (x .add-to-row .ensures)
+    marked (z .if1 .left) (y .row-at .ensures) (x .insert .ensures)
 
 pub add-member-spec : {M : Type 1} → statement M
 add-member-spec =
@@ -17,6 +17,6 @@ add-member-spec =
     (tie.spec
     (λ c. unmarked (c .if1 .taken))  -- returns
     (λ c κs. search needs)  -- row-at-requires
-    (λ c κs. search needs)  -- add-to-row-requires
+    (λ c κs. search needs)  -- insert-requires
     (λ c. search needs)  -- same-length
     returns-2)

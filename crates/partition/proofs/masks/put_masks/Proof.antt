@@ -18,7 +18,7 @@ loop-holds : tie.Need-loop-holds Inv-loop μ-loop
 loop-holds c =
     let x = c .before .before in
     let s = x .before .before .before .before in
-    (search needs, masks-none (s .args .cls .now) (x .clear-row .ensures))
+    (search needs, masks-none (s .args .cls .now) (x .clear .ensures))
 
 cast-add-member : tie.Need-cast-add-member Inv-loop μ-loop
 cast-add-member c =
@@ -37,7 +37,7 @@ returns c =
     let x = c .before in
     let y = x .before .before .before in
     let s = y .before .before .before .before in
-    let e : x .loop .v ≡ s .args .n = omega arith in masks-after (y .clear-row .ensures .rest) (rw e at (x .loop .inv .1))
+    let e : x .loop .v ≡ s .args .n = omega arith in masks-after (y .clear .ensures .rest) (rw e at (x .loop .inv .1))
 
 pub put-masks-spec : {M : Type 1} → statement M
 put-masks-spec =
@@ -45,8 +45,8 @@ put-masks-spec =
     (tie.spec
     Inv-loop
     μ-loop
-    (λ c. search needs)  -- mul-clear-row
-    (λ c κs. search needs)  -- clear-row-requires
+    (λ c. search needs)  -- mul-clear
+    (λ c κs. search needs)  -- clear-requires
     loop-holds
     (λ c. search needs)  -- shared-slice-read-add-member
     cast-add-member

@@ -8,7 +8,7 @@ use native.Mathlib.Omega.{arith}
 use lib.ListN.{length, drop, length-set}
 use Rattle.sets.specs.Below.{tabulate}
 use Rattle.sets.proofs.Lists.{tab-none, tab-more}
-use Rattle.sheet.specs.Sheet.{freq}
+use Rattle.sheet_rows.specs.Rows.{freq}
 use Rattle.planner.specs.Call.{zeroCells, chosenBy, cellBy, cellsBy}
 use Rattle.planner.proofs.Links.{class-lt, cell-in, cell-past, cells-done}
 use Rattle.planner.proofs.plan_cells.put_plan.Statement.{statement}

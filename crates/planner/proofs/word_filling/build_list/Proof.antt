@@ -2,7 +2,7 @@
 use borrow.Author.Needs.{needs}
 use mathlib.Core.Path.{refl}
 use borrow.Author.Tests.{ne-eqb, eq-eqb}
-use Rattle.vset.proofs.Rows.{outside-none}
+use Rattle.rows.proofs.Rows.{outside-none}
 use Rattle.planner.proofs.word_filling.build_list.Statement.{statement}
 use Rattle.planner.proofs.word_filling.build_list.Tie as tie
 

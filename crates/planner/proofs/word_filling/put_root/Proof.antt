@@ -4,8 +4,8 @@ use mathlib.Core.Path.{_≡_, sym, ap, _∙_}
 use Prim.Native.Nat.{_+_, _≤_, _-_}
 use native.Mathlib.Omega.{arith}
 use Rattle.sets.specs.Sets.{_∪_, just, whole}
-use Rattle.vset.specs.Rows.{Put}
-use Rattle.vset.proofs.Rows.{outside-none, outside-then}
+use Rattle.rows.specs.Rows.{Put}
+use Rattle.rows.proofs.Rows.{outside-none, outside-then}
 use Rattle.planner.proofs.Sections.{whole-none, whole-more}
 use Rattle.planner.proofs.word_filling.put_root.Statement.{statement}
 use Rattle.planner.proofs.word_filling.put_root.Tie as tie
@@ -17,28 +17,28 @@ abbrev μ-loop : tie.MeasureT-loop
 μ-loop work₀ w n v₀ work v = n - v
 
 loop-holds : tie.Need-loop-holds Inv-loop μ-loop
-loop-holds c = (omega arith, record { here = c .before .before .clear-row .ensures .here ∙ whole-none; rest = outside-none _ _ _ })
+loop-holds c = (omega arith, record { here = c .before .before .clear .ensures .here ∙ whole-none; rest = outside-none _ _ _ })
 
-add-to-row-requires : tie.Need-add-to-row-requires Inv-loop μ-loop
-add-to-row-requires c κs =
+insert-requires : tie.Need-insert-requires Inv-loop μ-loop
+insert-requires c κs =
     let s = c .before .before .before .before .before .before .before .before in
     let v = c .before .before .loop in
-    (omega (arith, v .inv .1 .rest .len, c .before .before .before .before .before .clear-row .ensures .rest .len, s .pre .0), omega (arith, s .pre .1))
+    (omega (arith, v .inv .1 .rest .len, c .before .before .before .before .before .clear .ensures .rest .len, s .pre .0), omega (arith, s .pre .1))
 
 loop-again : tie.Need-loop-again Inv-loop μ-loop
 loop-again c =
     let v = c .before .before .before .before .before .loop in
-    let X = c .before .before .add-to-row .ensures in
+    let X = c .before .before .insert .ensures in
     (omega arith, record { here = X .here ∙ ap (λ S. S ∪ just (v .v)) (v .inv .1 .here) ∙ whole-more (v .v); rest = outside-then (v .inv .1 .rest) (X .rest) })
 
 same-length : tie.Need-same-length Inv-loop μ-loop
-same-length c = c .before .loop .inv .1 .rest .len ∙ c .before .before .before .before .clear-row .ensures .rest .len
+same-length c = c .before .loop .inv .1 .rest .len ∙ c .before .before .before .before .clear .ensures .rest .len
 
 returns : tie.Need-returns Inv-loop μ-loop
 returns c =
     let v = c .before .loop in
     let e : v .v ≡ c .before .before .before .before .before .before .before .args .n = omega arith in
-    record { here = v .inv .1 .here ∙ ap whole e; rest = outside-then (c .before .before .before .before .clear-row .ensures .rest) (v .inv .1 .rest) }
+    record { here = v .inv .1 .here ∙ ap whole e; rest = outside-then (c .before .before .before .before .clear .ensures .rest) (v .inv .1 .rest) }
 
 pub put-root-spec : {M : Type 1} → statement M
 put-root-spec =
@@ -48,7 +48,7 @@ put-root-spec =
     μ-loop
     (λ c κs. search needs)
     loop-holds
-    add-to-row-requires
+    insert-requires
     (λ c. search needs)
     (λ c. search needs)
     loop-again

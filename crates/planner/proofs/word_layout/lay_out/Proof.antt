@@ -27,7 +27,6 @@ returns c =
     record {
       wide = b .wide;
       small = omega arith;
-      some = omega arith;
       deep = omega arith;
       after-masks = omega arith;
       after-layers = omega arith;

@@ -23,7 +23,7 @@ returns c =
     let a = c .before .before .before .before .before .args in
     let l = c .before .before .before .loop .l in
     let e : l ≡ l - 1 + 1 = omega arith in
-    sym (c .before .before .before .loop .inv .1 ∙ layer-hit (now (a .ls)) l (l - 1) (a .v) e (omega arith))
+    omega (arith, layer-hit (now (a .ls)) l (l - 1) (a .v) e (omega arith))
 
 loop-again : tie.Need-loop-again Inv-loop μ-loop
 loop-again c =

@@ -28,16 +28,7 @@ lists-pair-requires c κs =
     λ o. let b = row-bounds (c .before .before .before .before .before .before .before .before .before .before .pre .0) in let g = b .pairs (c .before .before .before .before .before .before .before .before .before .before .pre .1) (omega arith) in omega arith
 
 returns : tie.Need-returns
-returns c =
-    rw (
-      ← c .before .before .before .before .before .before .rule-a .ensures .0,
-      ← c .before .before .before .before .before .link-first .ensures .0,
-      ← c .before .before .before .before .rule-b .ensures .0,
-      ← c .before .before .before .link-first2 .ensures .0,
-      ← c .before .before .rule-value .ensures .0,
-      ← c .before .rule-count .ensures .0,
-    )
-    (c .lists-pair .ensures)
+returns c = cc
 
 pub lists-vertices-spec : {M : Type 1} → statement M
 lists-vertices-spec =

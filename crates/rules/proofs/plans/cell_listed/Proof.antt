@@ -6,7 +6,7 @@ use Rattle.rules.proofs.plans.cell_listed.Tie as tie
 
 returns : tie.Need-returns
 unfolding inLists
-returns c = rw (← c .before .wide .ensures) (c .has-freq .ensures)
+returns c = cc
 
 pub cell-listed-spec : {M : Type 1} → statement M
 cell-listed-spec =

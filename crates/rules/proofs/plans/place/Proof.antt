@@ -9,7 +9,7 @@ use native.Mathlib.Omega.{arith}
 use lib.Dec.{eqb}
 use Rattle.sets.specs.Below.{any, count}
 use Rattle.sets.proofs.Below.{any-ends, any-goes-on, any-none, first-found, first-none}
-use Rattle.sheet.specs.Sheet.{freq}
+use Rattle.sheet_rows.specs.Rows.{freq}
 use Rattle.rules.specs.Plans.{placeOf}
 use Rattle.rules.proofs.plans.place.Statement.{statement}
 use Rattle.rules.proofs.plans.place.Tie as tie

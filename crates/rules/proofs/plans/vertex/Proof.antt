@@ -24,7 +24,7 @@ add-result c =
 
 returns : tie.Need-returns
 unfolding vertexOf
-returns c = rw (← c .before .before .link-first .ensures .0, ← c .before .link-count .ensures .0, ← c .place .ensures)
+returns c = cc
 
 pub vertex-spec : {M : Type 1} → statement M
 vertex-spec =

@@ -25,7 +25,7 @@ loop-holds c = search (needs, all-none)
 link-is : (c : tie.After-rising Inv-loop μ-loop) →
     let a = c .before .before .before .before .before .before .before .args in c .rising .result ≡ linkFreqsOk (now (a .ls)) (now (a .p)) (c .before .before .before .before .loop .l)
 unfolding linkFreqsOk
-link-is c = rw (← c .before .before .link-first .ensures .0, ← c .before .link-count .ensures .0) (c .rising .ensures)
+link-is c = cc
 
 rising-requires : tie.Need-rising-requires Inv-loop μ-loop
 rising-requires c κs =

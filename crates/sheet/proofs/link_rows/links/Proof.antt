@@ -9,7 +9,8 @@ use native.Mathlib.Omega.{arith}
 use Rattle.sets.specs.Below.{all, sumTo}
 use Rattle.sets.proofs.Tests.{and-in}
 use Rattle.sets.proofs.Below.{all-none, all-step, sum-more, sum-none}
-use Rattle.sheet.specs.Sheet.{linkCount, linkOk}
+use Rattle.sheet_rows.specs.Rows.{linkCount}
+use Rattle.sheet.specs.Sheet.{linkOk}
 use Rattle.sheet.proofs.Causes.{unless-false, unless-true}
 use Rattle.sheet.proofs.Links.{links-are, links-false, row-bad, row-link}
 use Rattle.sheet.proofs.link_rows.links.Statement.{statement}

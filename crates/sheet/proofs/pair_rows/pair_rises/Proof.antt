@@ -6,9 +6,7 @@ use Rattle.sheet.proofs.pair_rows.pair_rises.Tie as tie
 
 returns : tie.Need-returns
 unfolding pairRises
-returns c =
-    rw (← c .before .before .before .before .pair-first .ensures .0, ← c .before .before .before .pair-second .ensures .0, ← c .before .before .pair-first2 .ensures .0, ← c .before .pair-second2 .ensures .0)
-    (c .comes-before .ensures)
+returns c = cc
 
 pub pair-rises-spec : {M : Type 1} → statement M
 pair-rises-spec =

@@ -32,16 +32,7 @@ pairs-rise-requires c κs =
 
 returns-2 : tie.Need-returns-2
 unfolding rulePairsOk
-returns-2 c =
-    rw (
-      ← c .before .before .before .before .before .before .before .listed .ensures .0,
-      ← c .before .before .before .before .before .rule-a .ensures .0,
-      ← c .before .before .before .before .rule-b .ensures .0,
-      ← c .before .before .before .rule-value .ensures .0,
-      ← c .before .before .link-count .ensures .0,
-      ← c .before .link-count2 .ensures .0,
-    )
-    (c .pairs-rise .ensures)
+returns-2 c = cc
 
 pub rule-pairs-spec : {M : Type 1} → statement M
 rule-pairs-spec =

@@ -11,9 +11,7 @@ returns c = rw (c .if1 .taken)
 
 returns-2 : tie.Need-returns-2
 unfolding ruleRises
-returns-2 c =
-    rw (ne-eqb _ _ (c .before .before .before .before .before .if1 .left))
-    (rw (← c .before .before .before .before .rule-a .ensures .0, ← c .before .before .before .rule-b .ensures .0, ← c .before .before .rule-a2 .ensures .0, ← c .before .rule-b2 .ensures .0) (c .comes-before .ensures))
+returns-2 c = rw (ne-eqb _ _ (c .before .before .before .before .before .if1 .left)) (cc)
 
 pub rule-rises-spec : {M : Type 1} → statement M
 rule-rises-spec =

@@ -1,0 +1,27 @@
+-- `trial::small::make_rules` is safe and ends: p counts up to 64.
+use borrow.Author.Needs.{needs}
+use mathlib.Core.Path.{_≡_}
+use Prim.Native.Nat.{_≤_, _-_}
+use lib.ListN.{length}
+use Rattle.trial.proofs.small.make_rules.Statement.{statement}
+use Rattle.trial.proofs.small.make_rules.Tie as tie
+
+abbrev Inv-loop : tie.InvT-loop
+Inv-loop job₀ seed₀ p₀ job seed p = (p ≤ 64) × (length job ≡ length job₀)
+
+abbrev μ-loop : tie.MeasureT-loop
+μ-loop job₀ seed₀ p₀ job seed p = 64 - p
+
+pub make-rules-spec : {M : Type 1} → statement M
+make-rules-spec =
+    tie.close
+    (tie.spec
+    Inv-loop
+    μ-loop
+    (λ c. search needs)
+    (λ c κs. search needs)
+    (λ c. search needs)
+    (λ c. search needs)
+    (λ c. search needs)
+    (λ c. search needs)
+    (λ c. search needs))

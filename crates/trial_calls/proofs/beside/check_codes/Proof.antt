@@ -1,0 +1,30 @@
+-- `trial_calls::beside::check_codes` is safe and ends: code counts up to end.
+use borrow.Author.Needs.{needs}
+use mathlib.Core.Path.{_≡_}
+use Prim.Native.Nat.{_≤_, _-_}
+use lib.ListN.{length}
+use Rattle.trial_calls.proofs.beside.check_codes.Statement.{statement}
+use Rattle.trial_calls.proofs.beside.check_codes.Tie as tie
+
+abbrev Inv-loop : tie.InvT-loop
+Inv-loop job sheet tally₀ end code₀ tally code = (code ≤ end) × (length tally ≡ length tally₀)
+
+abbrev μ-loop : tie.MeasureT-loop
+μ-loop job sheet tally₀ end code₀ tally code = end - code
+
+pub check-codes-spec : {M : Type 1} → statement M
+check-codes-spec =
+    tie.close
+    (tie.spec
+    Inv-loop
+    μ-loop
+    (λ c κs. search needs)
+    (λ c. search needs)
+    (λ c κs. search needs)
+    (λ c. search needs)
+    (λ c. search needs)
+    (λ c. search needs)
+    (λ c. search needs)
+    (λ c. search needs)
+    (λ c. search needs)
+    (λ c. search needs))

@@ -1,0 +1,28 @@
+-- `trial_calls::calls::holds_plan` is safe and ends: i counts up to the length of cells.
+use borrow.Author.Needs.{needs}
+use Prim.Native.Nat.{_≤_, _-_}
+use lib.ListN.{length}
+use Rattle.trial_calls.proofs.calls.holds_plan.Statement.{statement}
+use Rattle.trial_calls.proofs.calls.holds_plan.Tie as tie
+
+abbrev Inv-loop : tie.InvT-loop
+Inv-loop cells plan found i₀ i = i ≤ length cells
+
+abbrev μ-loop : tie.MeasureT-loop
+μ-loop cells plan found i₀ i = length cells - i
+
+pub holds-plan-spec : {M : Type 1} → statement M
+holds-plan-spec =
+    tie.close
+    (tie.spec
+    Inv-loop
+    μ-loop
+    (λ c. search needs)
+    (λ c κs. search needs)
+    (λ c κs. search needs)
+    (λ c. search needs)
+    (λ c. search needs)
+    (λ c. search needs)
+    (λ c. search needs)
+    (λ c. search needs)
+    (λ c. search needs))

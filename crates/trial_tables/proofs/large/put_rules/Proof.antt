@@ -1,0 +1,31 @@
+-- `trial_tables::large::put_rules` is safe and ends: j counts up to q.
+use borrow.Author.Needs.{needs}
+use mathlib.Core.Path.{_≡_}
+use Prim.Native.Nat.{_≤_, _-_}
+use lib.ListN.{length}
+use Rattle.trial_tables.proofs.large.put_rules.Statement.{statement}
+use Rattle.trial_tables.proofs.large.put_rules.Tie as tie
+
+abbrev Inv-loop : tie.InvT-loop
+Inv-loop out₀ k n q t a₀ b₀ from₀ j₀ out a b from j = (j ≤ q) × (length out ≡ length out₀)
+
+abbrev μ-loop : tie.MeasureT-loop
+μ-loop out₀ k n q t a₀ b₀ from₀ j₀ out a b from j = q - j
+
+pub put-rules-spec : {M : Type 1} → statement M
+put-rules-spec =
+    tie.close
+    (tie.spec
+    Inv-loop
+    μ-loop
+    (λ c. search needs)
+    (λ c κs. search needs)
+    (λ c κs. search needs)
+    (λ c κs. search needs)
+    (λ c κs. search needs)
+    (λ c κs. search needs)
+    (λ c. search needs)
+    (λ c. search needs)
+    (λ c. search needs)
+    (λ c. search needs)
+    (λ c. search needs))

@@ -1,0 +1,30 @@
+-- `trial_tables::large::under_filters` is safe and ends: filter counts up to 8.
+use borrow.Author.Needs.{needs}
+use mathlib.Core.Path.{_≡_}
+use Prim.Native.Nat.{_≤_, _-_}
+use lib.ListN.{length}
+use Rattle.trial_tables.proofs.large.under_filters.Statement.{statement}
+use Rattle.trial_tables.proofs.large.under_filters.Tie as tie
+
+abbrev Inv-loop : tie.InvT-loop
+Inv-loop sheet want plan tally₀ filter₀ tally filter = (filter ≤ 8) × (length tally ≡ length tally₀)
+
+abbrev μ-loop : tie.MeasureT-loop
+μ-loop sheet want plan tally₀ filter₀ tally filter = 8 - filter
+
+pub under-filters-spec : {M : Type 1} → statement M
+under-filters-spec =
+    tie.close
+    (tie.spec
+    Inv-loop
+    μ-loop
+    (λ c. search needs)
+    (λ c κs. search needs)
+    (λ c. search needs)
+    (λ c. search needs)
+    (λ c. search needs)
+    (λ c. search needs)
+    (λ c. search needs)
+    (λ c κs. search needs)
+    (λ c. search needs)
+    (λ c. search needs))

@@ -1,0 +1,31 @@
+-- `trial_tables::refusals::cut_rows` is safe and ends: r counts up to m.
+use borrow.Author.Needs.{needs}
+use mathlib.Core.Path.{_≡_}
+use Prim.Native.Nat.{_≤_, _-_}
+use lib.ListN.{length}
+use Rattle.trial_tables.proofs.refusals.cut_rows.Statement.{statement}
+use Rattle.trial_tables.proofs.refusals.cut_rows.Tie as tie
+
+abbrev Inv-loop : tie.InvT-loop
+Inv-loop table m sheet zeros tally₀ r₀ tally r = (r ≤ m) × (length tally ≡ length tally₀)
+
+abbrev μ-loop : tie.MeasureT-loop
+μ-loop table m sheet zeros tally₀ r₀ tally r = m - r
+
+pub cut-rows-spec : {M : Type 1} → statement M
+cut-rows-spec =
+    tie.close
+    (tie.spec
+    Inv-loop
+    μ-loop
+    (λ c. search needs)
+    (λ c. search needs)
+    (λ c κs. search needs)
+    (λ c κs. search needs)
+    (λ c. search needs)
+    (λ c. search needs)
+    (λ c. search needs)
+    (λ c. search needs)
+    (λ c. search needs)
+    (λ c. search needs)
+    (λ c. search needs))
