@@ -5,12 +5,13 @@
    in link order.
 
    The caller keeps three things:
-   - no pointer is null, also where its length is 0;
+   - a pointer is null only where its length is 0;
    - each pointer has at least as many bytes as its length says;
    - the cells of guvtemi_plan overlap neither sheet nor classes, and nothing else writes any of them during a call.
    Everything else is the callee's: every byte sequence and every number gets an answer.
 
-   The calls keep nothing between them, so several threads may call at once, each with cells of its own. */
+   The calls keep nothing between them, so several threads may call at once, each with cells of its own. A call of
+   guvtemi_plan takes up to 240 KiB of stack (docs/ASSURANCE.md); the sheets in examples/ take under 128. */
 
 #ifndef GUVTEMI_H
 #define GUVTEMI_H

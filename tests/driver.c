@@ -1,5 +1,5 @@
 /* Calls the two functions of include/guvtemi.h for records on standard input and writes what came back to standard output.
-   Every buffer has just its length, so that a memory checker sees each byte read or written past it.
+   Every buffer has just its length, so that a memory checker sees each byte read or written past it; an empty one is null.
 
    A record, little-endian: call (0 plan, 1 check), filter, choice, limit, sheet length, class list length, cells length
    (32 bits each), then the bytes of the three. An answer: the number returned (64 bits), 32 bits that are 0 where everything
@@ -35,9 +35,11 @@ int main(void)
         uint8_t *classes = take(field[5], &classes_before);
         uint8_t *cells = take(field[6], &cells_before);
 
+        const uint8_t *lent_sheet = field[4] ? sheet : NULL, *lent_classes = field[5] ? classes : NULL;
+        uint8_t *lent_cells = field[6] ? cells : NULL;
         uint64_t returned = field[0] == 0
-            ? guvtemi_plan(sheet, field[4], field[1], field[2], field[3], classes, field[5], cells, field[6])
-            : guvtemi_check(sheet, field[4], cells, field[6]);
+            ? guvtemi_plan(lent_sheet, field[4], field[1], field[2], field[3], lent_classes, field[5], lent_cells, field[6])
+            : guvtemi_check(lent_sheet, field[4], lent_cells, field[6]);
 
         uint32_t changed = memcmp(sheet, sheet_before, field[4]) != 0 || memcmp(classes, classes_before, field[5]) != 0
             || (field[0] != 0 && memcmp(cells, cells_before, field[6]) != 0);
