@@ -80,10 +80,20 @@ def _(_):
 @test("every command has --help")
 def _(_):
     commands = [[SHEET, "--help"], [ROOT / "bench" / "run", "--help"], [ROOT / "tests" / "outside", "--help"], ["sh", EXAMPLES / "build", "--help"]]
-    commands += [[SHEET, name, "--help"] for name in ("make", "show", "why", "plan", "picture")]
+    commands += [[SHEET, name, "--help"] for name in ("make", "show", "why", "plan", "picture")] + [["sh", ROOT / "guvtemi", "--help"]]
     for command in commands:
         done = run(command)
         need(done.returncode == 0 and len(done.stdout) > 60, f"{command}: status {done.returncode}")
+
+
+@test("guvtemi plans every example as the program does, and a wrong argument gets a sentence")
+def _(_):
+    for sheet in example_sheets():
+        done = run(["sh", ROOT / "guvtemi", sheet])
+        need(done.stdout.decode() == printed_by_program(sheet.read_bytes()) and not done.stderr, f"{sheet.name}: {done.stdout[:40]!r}")
+    for arguments in ([], ["no-such-file"], [str(EXAMPLES)], ["a", "b"]):
+        done = run(["sh", ROOT / "guvtemi", *arguments])
+        need(done.returncode == 2 and done.stderr and not done.stdout, f"{arguments}: status {done.returncode}")
 
 
 @test("wrong and missing inputs get a sentence, never a traceback")
