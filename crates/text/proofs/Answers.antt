@@ -11,6 +11,7 @@ use Rattle.sets.specs.Below.{loop}
 use Rattle.planner.specs.Outcome.{Outcome}
 use Rattle.planner.specs.Text.{ascii, line, foundText, printedOf, printed}
 use Rattle.text.specs.Written.{Put, PutLines, Holds, mostBytes, linkLines, printedIn}
+use Rattle.text.proofs.Pieces.{rest-from}
 use Rattle.text.proofs.Decimals.{line-few}
 
 pub first-few : (n : ℕ) → n < 2 ^ 32 → length (line (ascii "found") n) ≤ 17
@@ -48,11 +49,12 @@ module _ (k : ℕ) (o : Outcome) where
 
   -- the first line and the links' lines
   pub found-holds : {before first left : List ℕ} {at r : ℕ} → o .answer ≡ 100 → k ≤ 64 → o .nodes < 2 ^ 32 → mostBytes ≤ length before
-      → Put (line (ascii "found") (o .nodes)) before 0 first at → PutLines k (o .cells) first at left r → Holds (printedOf k o) left r
+      → Put (line (ascii "found") (o .nodes)) before 0 first at → PutLines k (o .cells) first at left r → Holds (printedOf k o) before left r
   unfolding foundText linkLines
   found-holds {before} {first} {left} {at} {r} e f g h p q = record {
     within = omega (arith, p .end, p .room, q .end, q .room, first-few (o .nodes) g);
     same = q .text ∙ ap (λ l. linkLines k (o .cells) l) (p .text) ∙ sym (printed-found e);
+    rest = q .rest ∙ rest-from first before at r (p .rest) (q .begins);
   }
 
 -- no other text names a link
@@ -62,8 +64,8 @@ printed-any o k j f =
     ap (λ b. by-tests k o b (eqb (o .answer) 101) (eqb (o .answer) 102)) (ne-eqb (o .answer) 100 f)
     ∙ sym (ap (λ b. by-tests j o b (eqb (o .answer) 101) (eqb (o .answer) 102)) (ne-eqb (o .answer) 100 f))
 
-pub same-holds : {a b left : List ℕ} {r : ℕ} → a ≡ b → Holds b left r → Holds a left r
-same-holds {a} {b} {left} {r} e h = record { within = h .within; same = h .same ∙ sym e }
+pub same-holds : {a b before left : List ℕ} {r : ℕ} → a ≡ b → Holds b before left r → Holds a before left r
+same-holds {a} {b} {before} {left} {r} e h = record { within = h .within; same = h .same ∙ sym e; rest = h .rest }
 
 -- room for any text, or for none
 pub printed-room : (m : ℕ) (s : List ℕ) → mostBytes ≤ m → printedIn m s ≡ printed s

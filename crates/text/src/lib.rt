@@ -21,7 +21,7 @@ use wire::word;
 // An answer as text. k is the number of links where a plan was found.
 fn put_answer(p: Planned, cells: &[u32], k: usize, text: &mut [u8]) -> usize
     requires { ⌜ (mostBytes ≤ length (now text)) × (verdictNumber (p .verdict) ≡ 100 → (k ≤ length (now cells)) × (k ≤ 64)) ⌝ }
-    ensures { λ r. ⌜ Holds (printedOf k (record { answer = verdictNumber (p .verdict); nodes = p .nodes; cells = now (cells .entry) })) (now (text .exit)) r ⌝ }
+    ensures { λ r. ⌜ Holds (printedOf k (record { answer = verdictNumber (p .verdict); nodes = p .nodes; cells = now (cells .entry) })) (now (text .entry)) (now (text .exit)) r ⌝ }
 {
     let nodes = p.nodes;
     let verdict = p.verdict;
@@ -52,7 +52,7 @@ fn links_told(sheet: &[u8]) -> usize
 // Plans a sheet in the cells and words lent, and puts the answer.
 fn put_planned(sheet: &[u8], cells: &mut [u32], work: &mut [u64], text: &mut [u8]) -> usize
     requires { ⌜ mostBytes ≤ length (now text) ⌝ }
-    ensures { λ r. ⌜ Holds (printedOf (kOf (now (sheet .entry))) (outcome (now (sheet .entry)) 7 0 1000000 [] (length (now (cells .entry))) (length (now (work .entry))))) (now (text .exit)) r ⌝ }
+    ensures { λ r. ⌜ Holds (printedOf (kOf (now (sheet .entry))) (outcome (now (sheet .entry)) 7 0 1000000 [] (length (now (cells .entry))) (length (now (work .entry))))) (now (text .entry)) (now (text .exit)) r ⌝ }
 {
     let p = plan(sheet, 7, 0, 1000000, b"", cells, work);
     let k = links_told(sheet);
@@ -61,7 +61,7 @@ fn put_planned(sheet: &[u8], cells: &mut [u32], work: &mut [u64], text: &mut [u8
 
 // The text for a sheet, and how many bytes it has; nothing where there is not room for any text.
 pub fn put_text(sheet: &[u8], text: &mut [u8]) -> usize
-    ensures { λ r. ⌜ Holds (printedIn (length (now (text .entry))) (now (sheet .entry))) (now (text .exit)) r ⌝ }
+    ensures { λ r. ⌜ Holds (printedIn (length (now (text .entry))) (now (sheet .entry))) (now (text .entry)) (now (text .exit)) r ⌝ }
 {
     if text.len() < 1425 {
         return 0;

@@ -1,7 +1,7 @@
 -- `text::put_text` meets its contract.
 use borrow.Author.Needs.{needs}
 use denote.Ref.{now}
-use mathlib.Core.Path.{_≡_, sym, _∙_}
+use mathlib.Core.Path.{refl}
 use native.Mathlib.Omega.{arith}
 use Rattle.planner.specs.Text.{printed}
 use Rattle.text.proofs.Answers.{same-holds, printed-room, printed-no-room}
@@ -9,7 +9,7 @@ use Rattle.text.proofs.put_text.Statement.{statement}
 use Rattle.text.proofs.put_text.Tie as tie
 
 returns : tie.Need-returns
-returns c = record { within = omega arith; same = printed-no-room _ (now (c .before .before .before .args .sheet)) (omega arith) }
+returns c = record { within = omega arith; same = printed-no-room _ (now (c .before .before .before .args .sheet)) (omega arith); rest = refl }
 
 returns-2 : tie.Need-returns-2
 unfolding printed

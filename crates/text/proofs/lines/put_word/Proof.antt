@@ -4,13 +4,13 @@ use denote.Ref.{now}
 use Prim.Native.Nat.{_≤_, _-_}
 use mathlib.Core.Path.{_≡_}
 use native.Mathlib.Omega.{arith}
-use lib.ListN.{length, take, length-set}
-use Rattle.text.proofs.Pieces.{word-more, word-done}
+use lib.ListN.{length, take, drop, length-set}
+use Rattle.text.proofs.Pieces.{word-more, word-rest, word-done}
 use Rattle.text.proofs.lines.put_word.Statement.{statement}
 use Rattle.text.proofs.lines.put_word.Tie as tie
 
 abbrev Inv-loop : tie.InvT-loop
-Inv-loop text₀ word i₀ text i = (i ≤ length word) × (length text ≡ length text₀) × (take i text ≡ take i word)
+Inv-loop text₀ word i₀ text i = (i ≤ length word) × (length text ≡ length text₀) × (take i text ≡ take i word) × (drop i text ≡ drop i text₀)
 
 abbrev μ-loop : tie.MeasureT-loop
 μ-loop text₀ word i₀ text i = length word - i
@@ -20,10 +20,11 @@ loop-again c = (
   omega arith,
   simp length-set (omega arith),
   word-more _ _ (c .before .before .loop .i) (omega arith) (omega arith) (c .before .before .loop .inv .2),
+  word-rest _ _ (c .before .before .loop .i) _ (c .before .before .loop .inv .3),
 )
 
 returns : tie.Need-returns Inv-loop μ-loop
-returns c = word-done _ _ _ (c .before .loop .i) (omega arith) (omega arith) (c .before .loop .inv .2)
+returns c = word-done _ _ _ (c .before .loop .i) (omega arith) (omega arith) (c .before .loop .inv .2) (c .before .loop .inv .3)
 
 pub put-word-spec : {M : Type 1} → statement M
 put-word-spec =
