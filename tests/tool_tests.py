@@ -2,6 +2,7 @@
 
 import random
 import re
+import shutil
 import tempfile
 import xml.dom.minidom
 from collections import Counter
@@ -88,12 +89,47 @@ def _(_):
 
 @test("guvtemi plans every example as the program does, and a wrong argument gets a sentence")
 def _(_):
+    run(["sh", ROOT / "guvtemi", example_sheets()[0]])  # the first call may build
     for sheet in example_sheets():
         done = run(["sh", ROOT / "guvtemi", sheet])
         need(done.stdout.decode() == printed_by_program(sheet.read_bytes()) and not done.stderr, f"{sheet.name}: {done.stdout[:40]!r}")
     for arguments in ([], ["no-such-file"], [str(EXAMPLES)], ["a", "b"]):
         done = run(["sh", ROOT / "guvtemi", *arguments])
         need(done.returncode == 2 and done.stderr and not done.stdout, f"{arguments}: status {done.returncode}")
+
+
+@test("guvtemi builds again when the sources have changed")
+def _(_):
+    with tempfile.TemporaryDirectory() as folder:
+        root, tools = Path(folder) / "root", Path(folder) / "tools"
+        source, added = root / "crates" / "plan" / "src" / "main.rt", root / "crates" / "plan" / "specs" / "Added.antt"
+        for path in (source.parent, added.parent, tools):
+            path.mkdir(parents=True)
+        for path in (root / "crates.txt", root / "a.sheet", source):
+            path.write_text("plan:\n")
+        shutil.copy(ROOT / "guvtemi", root)
+        (tools / "rt").write_text("#!/bin/sh\necho 'rt: plan proved (1 s)'\n[ -e broken ] && exit 1\nmkdir -p target/bin\n"
+                                  "printf '#!/bin/sh\\necho planned\\n' >target/bin/plan\nchmod +x target/bin/plan\n")
+        (tools / "rt").chmod(0o755)
+
+        def told(with_rt=True):
+            """Whether it built, and its status."""
+            path = f"{tools}:/usr/bin:/bin" if with_rt else "/usr/bin:/bin"
+            done = run(["env", f"PATH={path}", "sh", root / "guvtemi", root / "a.sheet"])
+            need((done.stdout == b"planned\n") == (done.returncode == 0), f"printed {done.stdout!r} with status {done.returncode}")
+            return b"guvtemi: plan proved" in done.stderr, done.returncode
+
+        steps = [("not built", lambda: None, True), ("built", lambda: None, False), ("a touched file", source.touch, False),
+                 ("a changed file", lambda: source.write_text("fn"), True), ("a new file", lambda: added.write_text("x"), True),
+                 ("no change", lambda: None, False), ("a removed file", added.unlink, True)]
+        for name, change, builds in steps:
+            change()
+            need(told() == (builds, 0), f"{name}: {'not ' * builds}built")
+        if not shutil.which("rt", path="/usr/bin:/bin"):
+            source.write_text("other")
+            need(told(with_rt=False) == (False, 1), "the old program ran for changed sources")
+        (root / "broken").touch()
+        need(told() == (True, 1) and told() == (True, 1), "the old program ran for sources that are not proved")
 
 
 @test("wrong and missing inputs get a sentence, never a traceback")

@@ -1,11 +1,10 @@
--- The sheets with known results compute to what is known of them.
+-- M1 to M12 compute to what is known of them.
 use Rattle.sets.specs.Below
 use Rattle.sets.specs.Sets
 use Rattle.sheet.specs.Sheet
 use Rattle.sheet.specs.Refusal
 use Rattle.rules.specs.Pairs
 use Rattle.rules.specs.Layers
-use Rattle.rules.specs.Plans
 use Rattle.cliques.specs.Graph
 use Rattle.cliques.specs.Listing
 use Rattle.filters.specs.Sweep
@@ -14,22 +13,60 @@ use Rattle.filters.specs.Failed
 use Rattle.filters.specs.PreFilter
 use Rattle.filters.specs.Switches
 use Rattle.graph.specs.Graph as Micro
+use Rattle.partition.specs.Choice
 use Rattle.partition.specs.Partition
 use Rattle.search.specs.Tree
-use Rattle.search.specs.Setting
+use Rattle.search.specs.Setting as Root
+use Rattle.zeros.specs.Zeros
+use Rattle.cells.specs.Cells
+use Rattle.setting.specs.Setting
+use Rattle.work_words.specs.Classes
 use Rattle.planner.specs.Outcome
-use Rattle.planner.specs.Text
-use Rattle.cases.specs.Cases.{CasesHold, OthersHold}
+use Rattle.text.specs.Lines
+use Rattle.text.specs.Text
+use Rattle.cases.specs.Cases.{CasesHold}
 
--- every definition that a case computes with
-unfoldable opened : Unit {0}
-unfolding Below.all Below.any Below.first Below.sumTo Below.count Below.loop Below.replace Below.tabulate Sets._∩_ Sets._∪_ Sets._∖_ Sets.nothing Sets.just Sets.whole Sheet.linkOk Sheet.linksOk Sheet.freqOk Sheet.linkFreqsOk Sheet.freqsOk Sheet.before Sheet.plainOk Sheet.kindOk Sheet.listed Sheet.ruleRises Sheet.ruleRowOk Sheet.ruleOk Sheet.rulesOk Sheet.pairRises Sheet.pairOk Sheet.rulePairsOk Sheet.pairsOk Refusal.formOk Refusal.linkCountOk Refusal.countsOk Refusal.tableOk Refusal.offsetsOk Refusal.unless Refusal.sectionCause Refusal.refusal Pairs.distance Pairs.samePair Pairs.listsPair Pairs.agree Pairs.allows Pairs.fits Pairs.joins Layers.layerOf Plans.placeOf Plans.hasFreq Plans.vertexOf Plans.inLists Plans.ruleKept Plans.keeps Plans.keepsSheet Plans.checked Graph.inClass Graph.size Graph.some Graph.lone Graph.two Graph.lower Graph.higher Graph.isOpen Listing.byLayer Sweep.near Sweep.reached Sweep.sweepTo Sweep.sweep Steps.stays Steps.strike Steps.due Steps.steps Steps.unit Failed.alone Failed.refuted Failed.trial Failed.tryHigher Failed.tryClass Failed.round Failed.rounds Failed.failed PreFilter.preTo PreFilter.preFilter Switches.idle Switches.on Switches.atNode Micro.adjacent Partition.layersOf Partition.degree Partition.addDegree Partition.byDegree Partition.free Partition.join Partition.fill Partition.greedy Partition.placed Partition.built Partition.isPartition Partition.classes Tree.plus Tree.choose Tree.inTurn Tree.node Setting.root Setting.tree Outcome.settingOk Outcome.listOk Outcome.settingCause Outcome.callRefusal Outcome.classesOf Outcome.treeOf Outcome.planCells Outcome.outcome Text.ascii Text.digits Text.decimal Text.line Text.foundText Text.printedOf Text.printed
-opened = tt
+-- every definition that a case computes with, crate by crate
+
+unfoldable openSets : Unit {0}
+unfolding Below.all Below.any Below.first Below.sumTo Below.count Below.loop Below.replace Below.tabulate Sets._∩_
+    Sets._∪_ Sets._∖_ Sets.nothing Sets.just Sets.whole
+openSets = tt
+
+unfoldable openSheet : Unit {0}
+unfolding Sheet.linkOk Sheet.linksOk Sheet.freqOk Sheet.linkFreqsOk Sheet.freqsOk Sheet.before Sheet.plainOk
+    Sheet.kindOk Sheet.listed Sheet.ruleRises Sheet.ruleRowOk Sheet.ruleOk Sheet.rulesOk Sheet.pairRises Sheet.pairOk
+    Sheet.rulePairsOk Sheet.pairsOk Refusal.formOk Refusal.linkCountOk Refusal.countsOk Refusal.tableOk
+    Refusal.offsetsOk Refusal.unless Refusal.sectionCause Refusal.refusal
+openSheet = tt
+
+unfoldable openGraph : Unit {0}
+unfolding Pairs.distance Pairs.samePair Pairs.listsPair Pairs.agree Pairs.allows Pairs.fits Pairs.joins Layers.layerOf
+    Micro.adjacent Graph.inClass Graph.size Graph.some Graph.lone Graph.two Graph.lower Graph.isOpen
+    Listing.byLayer
+openGraph = tt
+
+unfoldable openFilters : Unit {0}
+unfolding Sweep.near Sweep.reached Sweep.sweepTo Sweep.sweep Steps.stays Steps.strike Steps.due Steps.steps Steps.unit
+    Failed.alone Failed.refuted Failed.trial Failed.tryHigher Failed.tryClass Failed.round Failed.rounds Failed.failed
+    PreFilter.preTo PreFilter.preFilter Switches.idle Switches.on Switches.atNode
+openFilters = tt
+
+unfoldable openPartition : Unit {0}
+unfolding Choice.classList Partition.layersOf Partition.degree Partition.addDegree Partition.byDegree Partition.free
+    Partition.join Partition.fill Partition.greedy Partition.allPlaced Partition.built Partition.classes
+openPartition = tt
+
+unfoldable openPlanner : Unit {0}
+unfolding Tree.plus Tree.choose Tree.inTurn Tree.node Root.root Root.tree Zeros.zeros Cells.cellOf Cells.planCells
+    Setting.inRange Classes.listOk Classes.classesOf Outcome.settingCause Outcome.callRefusal Outcome.treeOf
+    Outcome.outcome
+openPlanner = tt
+
+unfoldable openText : Unit {0}
+unfolding Lines.ascii Lines.digits Lines.decimal Lines.ending Lines.line Text.linkLines Text.printedOf Text.printed
+openText = tt
 
 pub cases-hold : CasesHold
-unfolding opened
+unfolding openSets openSheet openGraph openFilters openPartition openPlanner openText
 cases-hold = tt
-
-pub others-hold : OthersHold
-unfolding opened
-others-hold = tt

@@ -6,7 +6,7 @@ use lib.Dec.{eqb}
 use lib.ListN.{length}
 
 -- a rule row: links a and b, kind, value, and the pairs of kind 3
-pub record Row : Type 0 where
+pub record RuleGiven : Type 0 where
   pub a : ℕ
   pub b : ℕ
   pub kind : ℕ
@@ -24,7 +24,7 @@ abbrev pub total : List (List ℕ) → ℕ
 total [] = 0
 total (l ∷ ls) = length l + total ls
 
-abbrev pub pairCount : List Row → ℕ
+abbrev pub pairCount : List RuleGiven → ℕ
 pairCount [] = 0
 pairCount (r ∷ rs) = length (r .pairs) + pairCount rs
 
@@ -41,7 +41,7 @@ freqRows (l ∷ ls) = go l ++ freqRows ls
     go (x ∷ xs) = bytes32 x ++ go xs
 
 -- kind 3 rows count their pairs and start at the sum of the earlier ones
-abbrev pub ruleRows : ℕ → List Row → List ℕ
+abbrev pub ruleRows : ℕ → List RuleGiven → List ℕ
 ruleRows at [] = []
 ruleRows at (r ∷ rs) =
     bytes16 (r .a) ++ bytes16 (r .b) ++ bytes16 (r .kind) ++ bytes16 (length (r .pairs)) ++
@@ -51,12 +51,12 @@ abbrev pub pairRow : List (ℕ × ℕ) → List ℕ
 pairRow [] = []
 pairRow (p ∷ ps) = bytes16 (p .0) ++ bytes16 (p .1) ++ pairRow ps
 
-abbrev pub pairRows : List Row → List ℕ
+abbrev pub pairRows : List RuleGiven → List ℕ
 pairRows [] = []
 pairRows (r ∷ rs) = pairRow (r .pairs) ++ pairRows rs
 
 -- the sheet of lists of frequencies and rule rows
-abbrev pub encode : List (List ℕ) → List Row → List ℕ
+abbrev pub encode : List (List ℕ) → List RuleGiven → List ℕ
 encode ls rs =
     let k = length ls in
     let n = total ls in

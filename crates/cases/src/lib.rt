@@ -1,2 +1,1 @@
-// The sheets with known results: M1 to M12 as one list with a lone theorem, the list's other sheets, and sheets that catch the slips a careful
-// hand makes. Definitions and their theorem.
+// The sheets with known results to prove: M1 to M12 as one list with a lone theorem, over the planner's definitions.

@@ -1,14 +1,17 @@
-// The console's two calls, with numbers and byte slices, for a C program. Their contracts cite specs/Console.antt, for every input.
+// The console's two calls, with numbers and byte slices, for a C program. Their contracts cite specs/Console.antt, for
+// every input.
 mod cell_bytes;
 
 ghost use mathlib.Core.Path.{_≡_};
 ghost use Prim.Native.Nat.{_+_, _*_, _^_, _≤_, min, _/_};
 ghost use lib.ListN.{length};
 ghost use Rattle.sets.specs.Below.{tabulate};
+ghost use Rattle.rules.specs.Job.{jobOf};
 ghost use Rattle.rules.specs.Plans.{checked};
+ghost use Rattle.setting.specs.Setting.{settingOf};
 ghost use Rattle.planner.specs.Outcome.{outcome};
 ghost use Rattle.planner.specs.Planned.{verdictNumber};
-ghost use Rattle.console.specs.Console.{consoleNumber, consoleOutcome, consoleCheck, cellBytes, cellIn};
+ghost use Rattle.console.specs.Console.{consoleOutcome, consoleCheck, Handed, cellIn};
 use cell_bytes::get_cells;
 use cell_bytes::put_cells;
 use planner::Planned;
@@ -16,6 +19,7 @@ use planner::check;
 use planner::plan;
 use planner::verdict_number;
 use rules::check_number;
+use setting::Options;
 
 // The number that the console is handed.
 fn number(p: Planned) -> u64
@@ -37,18 +41,17 @@ fn lent(bytes: usize) -> usize
 // Plans in the cells and words lent, and writes the cells as bytes.
 fn plan_into(
     sheet: &[u8],
-    filter: u32,
-    choice: u32,
-    limit: u32,
+    options: Options,
     classes: &[u8],
     cells: &mut [u32],
     work: &mut [u64],
     bytes: &mut [u8],
 ) -> u64
-    ensures { λ r. ⌜ r ≡ consoleNumber (outcome (now (sheet .entry)) filter choice limit (now (classes .entry)) (length (now (cells .entry))) (length (now (work .entry)))) ⌝ }
-    ensures { λ _. ⌜ now (bytes .exit) ≡ cellBytes (outcome (now (sheet .entry)) filter choice limit (now (classes .entry)) (length (now (cells .entry))) (length (now (work .entry))) .cells) (length (now (bytes .entry))) ⌝ }
+    ensures { λ r. ⌜ Handed (outcome (jobOf (now (sheet .entry))) (settingOf options (now (classes .entry)))
+        (length (now (cells .entry))) (length (now (work .entry))))
+        (length (now (bytes .entry))) r (now (bytes .exit)) ⌝ }
 {
-    let p = plan(sheet, filter, choice, limit, classes, cells, work);
+    let p = plan(sheet, options, classes, cells, work);
     put_cells(cells, bytes);
     number(p)
 }
@@ -63,28 +66,27 @@ pub extern "C" fn guvtemi_plan(
     classes: &[u8],
     bytes: &mut [u8],
 ) -> u64
-    ensures { λ r. ⌜ r ≡ consoleNumber (consoleOutcome (now (sheet .entry)) filter choice limit (now (classes .entry)) (length (now (bytes .entry)))) ⌝ }
-    ensures { λ _. ⌜ now (bytes .exit) ≡ cellBytes (consoleOutcome (now (sheet .entry)) filter choice limit (now (classes .entry)) (length (now (bytes .entry))) .cells) (length (now (bytes .entry))) ⌝ }
+    ensures { λ r. ⌜ Handed (consoleOutcome (jobOf (now (sheet .entry)))
+        (record { filter = filter; choice = choice; limit = limit; callers = now (classes .entry) })
+        (length (now (bytes .entry))))
+        (length (now (bytes .entry))) r (now (bytes .exit)) ⌝ }
 {
     let mut work = [0u64; 8192];
     let mut cells = [0u32; 64];
     let m = lent(bytes.len());
-    plan_into(
-        sheet,
+    let options = Options {
         filter,
         choice,
         limit,
-        classes,
-        &mut cells[..m],
-        &mut work,
-        bytes,
-    )
+    };
+    plan_into(sheet, options, classes, &mut cells[..m], &mut work, bytes)
 }
 
 // Checks the first cells in some bytes, as many as are lent.
 fn check_into(sheet: &[u8], bytes: &[u8], cells: &mut [u32]) -> u64
     requires { ⌜ 4 * length (now cells) ≤ length (now bytes) ⌝ }
-    ensures { λ r. ⌜ r ≡ checked (now (sheet .entry)) (tabulate (length (now (cells .entry))) (cellIn (now (bytes .entry)))) ⌝ }
+    ensures { λ r. ⌜ r ≡ checked (jobOf (now (sheet .entry)))
+        (tabulate (length (now (cells .entry))) (cellIn (now (bytes .entry)))) ⌝ }
 {
     get_cells(bytes, cells);
     check_number(check(sheet, cells)) as u64
@@ -93,7 +95,7 @@ fn check_into(sheet: &[u8], bytes: &[u8], cells: &mut [u32]) -> u64
 // Checks cells against a sheet: 0 for no, 100 for yes, or the refusal's number.
 #[no_mangle]
 pub extern "C" fn guvtemi_check(sheet: &[u8], bytes: &[u8]) -> u64
-    ensures { λ r. ⌜ r ≡ consoleCheck (now (sheet .entry)) (now (bytes .entry)) ⌝ }
+    ensures { λ r. ⌜ r ≡ consoleCheck (jobOf (now (sheet .entry))) (now (bytes .entry)) ⌝ }
 {
     let mut cells = [0u32; 64];
     let m = lent(bytes.len());

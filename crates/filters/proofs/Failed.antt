@@ -15,7 +15,8 @@ use Rattle.cliques.specs.Graph.{Graph, At, two, lower, higher, isOpen}
 use Rattle.filters.specs.Promise.{Promise}
 use Rattle.filters.specs.Unit.{unit}
 use Rattle.filters.specs.Failed.{State, alone, refuted, trial, tryHigher, tryClass, round, rounds, failed}
-use Rattle.cliques.proofs.Graph.{Sole, Pair, at-sub, some-in, lower-at, open-in, open-out, open-mono, two-pair, pair-two, pair-which, swap}
+use Rattle.cliques.proofs.Graph.{Sole, Pair, at-sub, some-in, lower-at, open-in, open-out, open-mono, two-pair}
+use Rattle.cliques.proofs.Graph.{pair-two, pair-which, swap}
 use Rattle.filters.proofs.Promise.{Greatest, greatest-mono, greatest-promise, set-one}
 use Rattle.filters.proofs.Unit.{UnitClosed, unit-greatest, clique-closed}
 
@@ -43,17 +44,21 @@ module _ (G : Graph) where
   alone-at c a S s e v x = record {
     lt = x .lt;
     live = meet-in S _ v (x .live) (bool (eqb (cls v) (cls a))
-        (λ q. or-r (not (eqb (cls v) (cls a))) (eq-eqb v a (s .only v (record { lt = x .lt; live = x .live; cl = eqb-true _ _ q ∙ s .at .cl }))))
+        (λ q. or-r (not (eqb (cls v) (cls a)))
+        (eq-eqb v a (s .only v (record { lt = x .lt; live = x .live; cl = eqb-true _ _ q ∙ s .at .cl }))))
         (λ q. or-l _ (not-in q)));
     cl = x .cl;
   }
 
-  sole-trial : (d c a : ℕ) (S : Set) → isOpen G d S ≡ true → UnitClosed G d S → Sole G c a S → isOpen G d (unit G d (alone G a S)) ≡ true
+  sole-trial : (d c a : ℕ) (S : Set) → isOpen G d S ≡ true → UnitClosed G d S → Sole G c a S
+      → isOpen G d (unit G d (alone G a S)) ≡ true
   sole-trial d c a S o z s =
       let i = alone-at c a S s in
-      let o′ = open-in G d (alone G a S) (λ e l r. some-in G e _ (alone G a S) (i e _ (lower-at G e S (open-out G d S o e l r)))) in
+      let o′ = open-in G d (alone G a S)
+      (λ e l r. some-in G e _ (alone G a S) (i e _ (lower-at G e S (open-out G d S o e l r)))) in
       open-mono G d (alone G a S) _ (unit-greatest G .keeps d (alone G a S) (alone G a S) o′
-      (λ e v l r x u h. z e v l r (record { at = at-sub G (alone-sub a S) (x .at); only = λ w y. x .only w (i e w y) }) u (alone-sub a S u h))
+      (λ e v l r x u h. z e v l r (record { at = at-sub G (alone-sub a S) (x .at); only = λ w y. x .only w (i e w y) })
+      u (alone-sub a S u h))
       (λ u h. h)) o′
 
   -- a failed vertex of a pair is in no closed part
@@ -61,7 +66,8 @@ module _ (G : Graph) where
       → isOpen G d S ≡ true → Closed d S → S ⊆ L → S ⊆ (L ∖ just a)
   unfolding refuted
   refuted-out d c a b L S l r p f o z s u h = without-in a L u (s u h) (λ e. clash (isOpen G d (unit G d (alone G a L)))
-      (open-mono G d _ _ (greatest-mono G (UnitClosed G) (unit G) (unit-greatest G) d _ _ (alone-mono a S L s) (ok e)) (ok e)) (not-out _ f))
+      (open-mono G d _ _ (greatest-mono G (UnitClosed G) (unit G) (unit-greatest G) d _ _ (alone-mono a S L s) (ok e))
+      (ok e)) (not-out _ f))
     where
       inA : u ≡ a → At G c a S
       inA e = record { lt = p .atA .lt; live = subst (λ w. S w ≡ true) e h; cl = p .atA .cl }
@@ -72,8 +78,14 @@ module _ (G : Graph) where
 
       ok : u ≡ a → isOpen G d (unit G d (alone G a S)) ≡ true
       ok e = bool (S b)
-          (λ q. z .1 c a b l r (record { atA = inA e; atB = record { lt = p .atB .lt; live = q; cl = p .atB .cl }; ne = p .ne; only = λ w x. p .only w (at-sub G s x) }))
-          (λ q. sole-trial d c a S o (z .0) (record { at = inA e; only = λ w x. pick w q x (p .only w (at-sub G s x)) }))
+          (λ q. z .1 c a b l r (record {
+            atA = inA e;
+            atB = record { lt = p .atB .lt; live = q; cl = p .atB .cl };
+            ne = p .ne;
+            only = λ w x. p .only w (at-sub G s x);
+          }))
+          (λ q. sole-trial d c a S o (z .0)
+          (record { at = inA e; only = λ w x. pick w q x (p .only w (at-sub G s x)) }))
 
   -- what a trial, a class, a round G do
   record Goes (d : ℕ) (x y : State) : Type 0 where
@@ -93,7 +105,8 @@ module _ (G : Graph) where
     change = go (p .change) (q .change);
   }
     where
-      go : (y ≡ x) ⊎ ((y .0 ≡ true) × (count n (y .1) < count n (x .1))) → (z ≡ y) ⊎ ((z .0 ≡ true) × (count n (z .1) < count n (y .1)))
+      go : (y ≡ x) ⊎ ((y .0 ≡ true) × (count n (y .1) < count n (x .1)))
+          → (z ≡ y) ⊎ ((z .0 ≡ true) × (count n (z .1) < count n (y .1)))
           → (z ≡ x) ⊎ ((z .0 ≡ true) × (count n (z .1) < count n (x .1)))
       go (inl a) (inl b) = inl (b ∙ a)
       go (inl a) (inr b) = inr (b .0, subst (λ w. count n (z .1) < count n (w .1)) a (b .1))
@@ -123,7 +136,8 @@ module _ (G : Graph) where
   class-goes : (d c : ℕ) (x : State) → d ≤ c → c < k → Goes d x (tryClass G d c x)
   unfolding tryClass
   class-goes d c x l r = case (Goes d x) (two G c (x .1)) _ _
-      (λ t. goes-on d x _ _ (trial-goes d c _ _ x l r (two-pair G c (x .1) t)) (higher-goes d c _ l r)) (λ t. goes-id d x)
+      (λ t. goes-on d x _ _ (trial-goes d c _ _ x l r (two-pair G c (x .1) t)) (higher-goes d c _ l r))
+      (λ t. goes-id d x)
 
   round-goes : (m d : ℕ) (x : State) → m ≤ k → Goes d x (round G m d x)
   unfolding round
@@ -144,12 +158,15 @@ module _ (G : Graph) where
 
   trial-same : (d a : ℕ) (x : State) → trial G d a x .0 ≡ false → (refuted G d a (x .1) ≡ false) × (trial G d a x ≡ x)
   unfolding trial
-  trial-same d a x = case (λ (y : State). y .0 ≡ false → (refuted G d a (x .1) ≡ false) × (y ≡ x)) (refuted G d a (x .1)) _ _
+  trial-same d a x = case (λ (y : State). y .0 ≡ false → (refuted G d a (x .1) ≡ false)
+      × (y ≡ x)) (refuted G d a (x .1)) _ _
       (λ f h. clash true refl h) (λ f h. (f, refl))
 
-  higher-same : (d c : ℕ) (x : State) → two G c (x .1) ≡ true → tryHigher G d c x .0 ≡ false → refuted G d (higher G c (x .1)) (x .1) ≡ false
+  higher-same : (d c : ℕ) (x : State) → two G c (x .1) ≡ true → tryHigher G d c x .0 ≡ false
+      → refuted G d (higher G c (x .1)) (x .1) ≡ false
   unfolding tryHigher
-  higher-same d c x t = case (λ (y : State). y .0 ≡ false → refuted G d (higher G c (x .1)) (x .1) ≡ false) (two G c (x .1)) _ _
+  higher-same d c x t = case (λ (y : State). y .0 ≡ false → refuted G d (higher G c (x .1)) (x .1) ≡ false)
+      (two G c (x .1)) _ _
       (λ t h. trial-same d _ x h .0) (λ f. clash (two G c (x .1)) t f)
 
   class-same : (d c : ℕ) (x : State) → d ≤ c → c < k → tryClass G d c x .0 ≡ false → Stable d c (x .1)
@@ -170,7 +187,8 @@ module _ (G : Graph) where
   round-same : (m d : ℕ) (x : State) → m ≤ k → round G m d x .0 ≡ false → (c : ℕ) → d ≤ c → c < m → Stable d c (x .1)
   unfolding round
   round-same zero d x h = λ q c a b. absurd (omega arith)
-  round-same (suc m) d x h = case (λ (y : State). y .0 ≡ false → (c : ℕ) → d ≤ c → c < suc m → Stable d c (x .1)) (ltb m d) _ _
+  round-same (suc m) d x h = case (λ (y : State). y .0 ≡ false → (c : ℕ) → d ≤ c → c < suc m → Stable d c (x .1))
+      (ltb m d) _ _
       (λ t q c a b. round-same m d x (omega arith) q c a (omega (arith, ltb-true m d t)))
       (λ t q c a b.
       let y = round G m d x in
@@ -178,12 +196,14 @@ module _ (G : Graph) where
       let yq : y .0 ≡ false = ap (λ w. w .0) (sym e) ∙ q in
       let yx = same d x y (round-goes m d x (omega arith)) yq in
       below c m b (λ i. round-same m d x (omega arith) yq c a i)
-      (λ i. subst (λ w. Stable d w (x .1)) (sym i) (subst (λ w. Stable d m (w .1)) yx (class-same d m y (ltb-false m d t) h q))))
+      (λ i. subst (λ w. Stable d w (x .1)) (sym i)
+      (subst (λ w. Stable d m (w .1)) yx (class-same d m y (ltb-false m d t) h q))))
 
   rounds-strikes : (f d : ℕ) (L : Set) → rounds G f d L ⊆ L
   unfolding rounds
   rounds-strikes zero d L = λ u h. h
-  rounds-strikes (suc f) d L = case (λ X. X ⊆ L) (round G k d (false, L) .0 && isOpen G d (round G k d (false, L) .1)) _ _
+  rounds-strikes (suc f) d L =
+      case (λ X. X ⊆ L) (round G k d (false, L) .0 && isOpen G d (round G k d (false, L) .1)) _ _
       (λ t u h. g .strikes u (rounds-strikes f d _ u h)) (λ t. g .strikes)
     where
       g : Goes d (false, L) (round G k d (false, L))
@@ -192,17 +212,20 @@ module _ (G : Graph) where
   rounds-keeps : (f d : ℕ) (L S : Set) → isOpen G d S ≡ true → Closed d S → S ⊆ L → S ⊆ rounds G f d L
   unfolding rounds
   rounds-keeps zero d L S o z s = s
-  rounds-keeps (suc f) d L S o z s = case (λ X. S ⊆ X) (round G k d (false, L) .0 && isOpen G d (round G k d (false, L) .1)) _ _
+  rounds-keeps (suc f) d L S o z s =
+      case (λ X. S ⊆ X) (round G k d (false, L) .0 && isOpen G d (round G k d (false, L) .1)) _ _
       (λ t. rounds-keeps f d _ S o z (g .keeps S o z s)) (λ t. g .keeps S o z s)
     where
       g : Goes d (false, L) (round G k d (false, L))
       g = round-goes k d (false, L) (omega arith)
 
-  rounds-closed : (f d : ℕ) (L : Set) → count n L < f → UnitClosed G d L → isOpen G d (rounds G f d L) ≡ true → Closed d (rounds G f d L)
+  rounds-closed : (f d : ℕ) (L : Set) → count n L < f → UnitClosed G d L → isOpen G d (rounds G f d L) ≡ true
+      → Closed d (rounds G f d L)
   unfolding rounds refuted
   rounds-closed zero d L m z = absurd (omega arith)
   rounds-closed (suc f) d L m z = case (λ X. isOpen G d X ≡ true → Closed d X) (y .0 && isOpen G d (y .1)) _ _
-      (λ t. rounds-closed f d (y .1) (less (g .change) (and-l (y .0) _ t)) (g .uclosed (and-r (y .0) (isOpen G d (y .1)) t) z))
+      (λ t. rounds-closed f d (y .1) (less (g .change) (and-l (y .0) _ t))
+      (g .uclosed (and-r (y .0) (isOpen G d (y .1)) t) z))
       (λ t o. last o (is-false (y .0) (λ i. clash (y .0 && isOpen G d (y .1)) (and-in i o) t)))
     where
       y : State
@@ -229,9 +252,11 @@ module _ (G : Graph) where
     strikes = λ d L. case (λ X. X ⊆ L) (isOpen G d (unit G d L)) _ _
         (λ o u h. unit-greatest G .strikes d L u (rounds-strikes (suc n) d _ u h)) (λ o. unit-greatest G .strikes d L);
     keeps = λ d L S o z s. case (λ X. S ⊆ X) (isOpen G d (unit G d L)) _ _
-        (λ i. rounds-keeps (suc n) d _ S o z (unit-greatest G .keeps d L S o (z .0) s)) (λ i. unit-greatest G .keeps d L S o (z .0) s);
+        (λ i. rounds-keeps (suc n) d _ S o z (unit-greatest G .keeps d L S o (z .0) s))
+        (λ i. unit-greatest G .keeps d L S o (z .0) s);
     closed = λ d L. case (λ X. isOpen G d X ≡ true → Closed d X) (isOpen G d (unit G d L)) _ _
-        (λ i. rounds-closed (suc n) d _ (let r = count-le n (unit G d L) in omega arith) (unit-greatest G .closed d L i))
+        (λ i. rounds-closed (suc n) d _ (let r = count-le n (unit G d L) in
+        omega arith) (unit-greatest G .closed d L i))
         (λ i o. clash (isOpen G d (unit G d L)) o i);
   }
 

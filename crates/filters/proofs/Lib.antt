@@ -4,6 +4,7 @@ pub mod ReachRows
 pub mod SweepRows
 pub mod PreFilterRows
 pub mod Steps
+pub mod Repeats
 pub mod UnitRows
 pub mod TrialRows
 pub mod FailedRows

@@ -1,5 +1,5 @@
--- Cliques as sets, and filters that leave the greatest set with a property: such a filter keeps its promise, and two of them agree,
--- whatever the order of their strikes.
+-- Cliques as sets, and filters that leave the greatest set with a property: such a filter keeps its promise, and two of
+-- them agree, whatever the order of their strikes.
 use mathlib.Core.Path.{_≡_, sym, ap, subst, _∙_, fun-ext}
 use mathlib.Core.Bool.{true, false, _&&_}
 use Prim.Native.Nat.{ℕ, _≤_, _<_}
@@ -52,7 +52,8 @@ module _ (G : Graph) where
   pub set-one : (d : ℕ) (c : ℕ → ℕ) (e v : ℕ) → At G e v (cliqueSet d c) → v ≡ c e
   set-one d c e v x = let q = set-is d c v (x .live) in sym (q .0) ∙ ap c (x .cl)
 
-  pub set-joined : (d : ℕ) (L : Set) (c : ℕ → ℕ) → Clique G d L c → (v u : ℕ) → cliqueSet d c v ≡ true → cliqueSet d c u ≡ true → (cls u ≡ cls v → ⊥) → adj v u ≡ true
+  pub set-joined : (d : ℕ) (L : Set) (c : ℕ → ℕ) → Clique G d L c → (v u : ℕ) → cliqueSet d c v ≡ true
+      → cliqueSet d c u ≡ true → (cls u ≡ cls v → ⊥) → adj v u ≡ true
   set-joined d L c p v u x y ne =
       let q = set-is d c v x in let r = set-is d c u y in
       let h = p .joined (cls v) (cls u) (q .1) (q .2) (r .1) (r .2) (λ e. ne (sym e)) in
@@ -63,19 +64,26 @@ module _ (G : Graph) where
   greatest-promise P F g f = record {
     strikes = g .strikes;
     keeps = λ d L c p. let q = clique-set d L c p in
-        clique-sub G d (cliqueSet d c) (F d L) c (g .keeps d L (cliqueSet d c) (clique-open G d (cliqueSet d c) c q) (f d L c p) (set-sub d L c p)) q;
+        clique-sub G d (cliqueSet d c) (F d L) c (g .keeps d L (cliqueSet d c) (clique-open G d (cliqueSet d c) c q)
+        (f d L c p) (set-sub d L c p)) q;
     refines = greatest-mono P F g;
   }
 
   -- two such filters agree, whatever the order of their strikes: open together, and then the same set
-  pub greatest-sub : (P : ℕ → Set → Type 0) (F H : Filter) → Greatest P F → Greatest P H → (d : ℕ) (L : Set) → isOpen G d (F d L) ≡ true → F d L ⊆ H d L
+  pub greatest-sub : (P : ℕ → Set → Type 0) (F H : Filter) → Greatest P F → Greatest P H → (d : ℕ) (L : Set)
+      → isOpen G d (F d L) ≡ true → F d L ⊆ H d L
   greatest-sub P F H f h d L o = h .keeps d L (F d L) o (f .closed d L o) (f .strikes d L)
 
-  pub greatest-open : (P : ℕ → Set → Type 0) (F H : Filter) → Greatest P F → Greatest P H → (d : ℕ) (L : Set) → isOpen G d (F d L) ≡ isOpen G d (H d L)
-  greatest-open P F H f h d L = iff _ _ (λ o. open-mono G d (F d L) (H d L) (greatest-sub P F H f h d L o) o) (λ o. open-mono G d (H d L) (F d L) (greatest-sub P H F h f d L o) o)
+  pub greatest-open : (P : ℕ → Set → Type 0) (F H : Filter) → Greatest P F → Greatest P H → (d : ℕ) (L : Set)
+      → isOpen G d (F d L) ≡ isOpen G d (H d L)
+  greatest-open P F H f h d L = iff _ _ (λ o. open-mono G d (F d L) (H d L) (greatest-sub P F H f h d L o) o)
+      (λ o. open-mono G d (H d L) (F d L) (greatest-sub P H F h f d L o) o)
 
-  pub greatest-same : (P : ℕ → Set → Type 0) (F H : Filter) → Greatest P F → Greatest P H → (d : ℕ) (L : Set) → isOpen G d (F d L) ≡ true → F d L ≡ H d L
-  greatest-same P F H f h d L o = fun-ext (λ u. iff _ _ (greatest-sub P F H f h d L o u) (greatest-sub P H F h f d L (sym (greatest-open P F H f h d L) ∙ o) u))
+  pub greatest-same : (P : ℕ → Set → Type 0) (F H : Filter) → Greatest P F → Greatest P H → (d : ℕ) (L : Set)
+      → isOpen G d (F d L) ≡ true → F d L ≡ H d L
+  greatest-same P F H f h d L o =
+      fun-ext (λ u. iff _ _ (greatest-sub P F H f h d L o u)
+      (greatest-sub P H F h f d L (sym (greatest-open P F H f h d L) ∙ o) u))
 
   -- strikes that a filter makes too: they may come in any order
   module _ (P : ℕ → Set → Type 0) (F : Filter) (g : Greatest P F) (d : ℕ) where
@@ -83,7 +91,8 @@ module _ (G : Graph) where
     way-start L = record { strikes = λ v h. h; keeps = λ o. g .strikes d L }
 
     -- no vertex of a part that has P and no empty class is lost
-    pub way-in : (L₀ L : Set) → L ⊆ L₀ → ((S : Set) → isOpen G d S ≡ true → P d S → S ⊆ L₀ → S ⊆ L) → OnTheWay G F d L₀ L
+    pub way-in : (L₀ L : Set) → L ⊆ L₀ → ((S : Set) → isOpen G d S ≡ true → P d S → S ⊆ L₀ → S ⊆ L)
+        → OnTheWay G F d L₀ L
     way-in L₀ L s f = record { strikes = s; keeps = λ o. f (F d L₀) o (g .closed d L₀ o) (g .strikes d L₀) }
 
     way-further : (L M : Set) → OnTheWay G F d L M → isOpen G d (F d L) ≡ true → F d L ⊆ F d M
@@ -95,7 +104,8 @@ module _ (G : Graph) where
       keeps = λ o v h. b .keeps (open-mono G d (F d L) (F d M) (way-further L M a o) o) v (way-further L M a o v h);
     }
 
-    -- where F strikes nothing more and no class is empty, it arrives; where F leaves a class empty, it does from the start too
+    -- where F strikes nothing more and no class is empty, it arrives; where F leaves a class empty, it does from the
+    -- start too
     pub way-ends : (L₀ L : Set) → OnTheWay G F d L₀ L → isOpen G d L ≡ true → P d L → F d L₀ ≡ L
     way-ends L₀ L w o p =
         let sub = g .keeps d L₀ L o p (w .strikes) in
@@ -103,7 +113,8 @@ module _ (G : Graph) where
         fun-ext (λ v. iff _ _ (w .keeps o₂ v) (sub v))
 
     pub way-shut : (L₀ L : Set) → OnTheWay G F d L₀ L → isOpen G d (F d L) ≡ false → isOpen G d (F d L₀) ≡ false
-    way-shut L₀ L w e = is-false _ (λ o. clash (isOpen G d (F d L)) (open-mono G d (F d L₀) (F d L) (way-further L₀ L w o) o) e)
+    way-shut L₀ L w e = is-false _
+        (λ o. clash (isOpen G d (F d L)) (open-mono G d (F d L₀) (F d L) (way-further L₀ L w o) o) e)
 
     -- what has an empty class has one after F
     pub shut-start : (L : Set) → isOpen G d L ≡ false → isOpen G d (F d L) ≡ false

@@ -13,7 +13,7 @@ use Rattle.sets.proofs.Sets.{join-assoc}
 use Rattle.vset.specs.Words.{None, Least}
 use Rattle.rows.specs.Rows.{setAt, rowAt, Outside, Put}
 use Rattle.rows.proofs.Rows.{above, below, outside-none, outside-then, outside-wide}
-use Rattle.filters.specs.Reach.{beside, Struck, SweptBy}
+use Rattle.filters.specs.Reach.{beside, StruckBy, SweptBy}
 
 or-false : (a b : Bool) → b ≡ false → (a || b) ≡ a
 or-false true b e = refl
@@ -44,7 +44,8 @@ module _ (p : List ℕ) (w : ℕ) (S : Set) (graph : ℕ) where
   beside-zero T = fun-ext (λ u. or-false (T u) false refl)
 
 -- the graph's rows are as they were
-pub beside-same : {lo hi : ℕ} {p q : List ℕ} (w : ℕ) (S : Set) (graph n : ℕ) → Outside lo hi p q → hi ≤ graph → beside q w S graph n ≡ beside p w S graph n
+pub beside-same : {lo hi : ℕ} {p q : List ℕ} (w : ℕ) (S : Set) (graph n : ℕ) → Outside lo hi p q → hi ≤ graph
+    → beside q w S graph n ≡ beside p w S graph n
 unfolding beside
 beside-same {lo} {hi} {p} {q} w S graph n x h =
     fun-ext (λ u. any-same n _ _ (λ v l. ap (λ (X : Set). S v && X u) (above x w (graph + v * w) (omega arith))))
@@ -61,14 +62,16 @@ module _ {w a u graph n : ℕ} {p₀ : List ℕ} (l : a + w ≤ u) (m : u + w �
   pub uniting-start : {v : ℕ} → Least (setAt p₀ w a) 0 (64 * w) v → Uniting w a u graph n p₀ p₀ v
   uniting-start {v} L = record {
     within = L .within;
-    here = sym (ap (λ (X : Set). setAt p₀ w u ∪ X) (beside-none p₀ w (setAt p₀ w a) graph 0 v (L .after) (L .none)) ∙ beside-zero p₀ w (setAt p₀ w a) graph (setAt p₀ w u));
+    here = sym (ap (λ (X : Set). setAt p₀ w u ∪ X) (beside-none p₀ w (setAt p₀ w a) graph 0 v (L .after) (L .none))
+        ∙ beside-zero p₀ w (setAt p₀ w a) graph (setAt p₀ w u));
     rest = outside-none _ _ p₀;
     live = λ h. L .found (omega arith);
     gap = λ x b e. L .none x (omega arith) e;
   }
 
   pub uniting-more : {p q : List ℕ} {v v′ g : ℕ} → Uniting w a u graph n p₀ p v → v < n → g ≡ graph + v * w
-      → Put (setAt p w u ∪ setAt p w g) w u p q → Least (setAt q w a) (v + 1) (64 * w) v′ → Uniting w a u graph n p₀ q v′
+      → Put (setAt p w u ∪ setAt p w g) w u p q → Least (setAt q w a) (v + 1) (64 * w) v′
+      → Uniting w a u graph n p₀ q v′
   uniting-more {p} {q} {v} {v′} {g} F h e P L =
       let rest : Outside u (u + w) p₀ q = outside-then (F .rest) (P .rest) in
       let same : setAt q w a ≡ setAt p₀ w a = below rest w a l in
@@ -77,13 +80,16 @@ module _ {w a u graph n : ℕ} {p₀ : List ℕ} (l : a + w ≤ u) (m : u + w �
       record {
         within = M .within;
         here = P .here ∙ ap₂ (λ (X Y : Set). X ∪ Y) (F .here) row ∙ join-assoc _ _ _
-            ∙ ap (λ (X : Set). setAt p₀ w u ∪ X) (sym (beside-none p₀ w (setAt p₀ w a) graph (v + 1) v′ (M .after) (M .none) ∙ beside-next p₀ w (setAt p₀ w a) graph v (F .live h)));
+            ∙ ap (λ (X : Set). setAt p₀ w u ∪ X)
+            (sym (beside-none p₀ w (setAt p₀ w a) graph (v + 1) v′ (M .after) (M .none)
+            ∙ beside-next p₀ w (setAt p₀ w a) graph v (F .live h)));
         rest = rest;
         live = λ x. M .found (omega arith);
         gap = λ x b e. M .none x (omega arith) e;
       }
 
-  pub uniting-end : {p : List ℕ} {v : ℕ} → Uniting w a u graph n p₀ p v → n ≤ v → Put (setAt p₀ w u ∪ beside p₀ w (setAt p₀ w a) graph n) w u p₀ p
+  pub uniting-end : {p : List ℕ} {v : ℕ} → Uniting w a u graph n p₀ p v → n ≤ v
+      → Put (setAt p₀ w u ∪ beside p₀ w (setAt p₀ w a) graph n) w u p₀ p
   uniting-end {p} {v} F h = record {
     here = F .here ∙ ap (λ (X : Set). setAt p₀ w u ∪ X) (beside-none p₀ w (setAt p₀ w a) graph n v h (F .gap));
     rest = F .rest;
@@ -95,7 +101,7 @@ module _ {w m graph n : ℕ} {p p₁ p₂ p₃ : List ℕ} where
       → Put (setAt p w 0 ∩ setAt p w m) w w p p₁
       → Put (setAt p₁ w (w + w) ∪ beside p₁ w (setAt p₁ w w) graph n) w (w + w) p₁ p₂
       → Put (setAt p₂ w 0 ∩ setAt p₂ w (w + w)) w 0 p₂ p₃
-      → Struck w m graph n p p₃
+      → StruckBy w m graph n p p₃
   struck a b x y z =
       let own : setAt p₂ w 0 ≡ setAt p w 0 = below (y .rest) w 0 (omega arith) ∙ below (x .rest) w 0 (omega arith) in
       let row : setAt p₁ w (w + w) ≡ setAt p w (w + w) = above (x .rest) w (w + w) (omega arith) in
@@ -103,23 +109,27 @@ module _ {w m graph n : ℕ} {p p₁ p₂ p₃ : List ℕ} where
         own = z .here ∙ ap₂ (λ (X Y : Set). X ∩ Y) own (y .here ∙ ap₂ (λ (X Y : Set). X ∪ Y) row
             (ap (λ (S : Set). beside p₁ w S graph n) (x .here) ∙ beside-same w _ graph n (x .rest) (omega arith)));
         rest = outside-then (outside-wide 0 (w + w + w) (omega arith) (omega arith) (x .rest))
-            (outside-then (outside-wide 0 (w + w + w) (omega arith) (omega arith) (y .rest)) (outside-wide 0 (w + w + w) (omega arith) (omega arith) (z .rest)));
+            (outside-then (outside-wide 0 (w + w + w) (omega arith) (omega arith) (y .rest))
+            (outside-wide 0 (w + w + w) (omega arith) (omega arith) (z .rest)));
       }
 
   pub swept-by : w + w + w + w ≤ m → w + w + w + w ≤ graph
       → Put (setAt p w (w + w + w) ∪ setAt p w m) w (w + w + w) p p₁
       → Put (setAt p₁ w (w + w + w)) w (w + w) p₁ p₂
-      → Struck w m graph n p₂ p₃
+      → StruckBy w m graph n p₂ p₃
       → SweptBy w m graph n p p₃
   swept-by a b x y z =
       let r₁ : Outside 0 (w + w + w + w) p p₁ = outside-wide 0 (w + w + w + w) (omega arith) (omega arith) (x .rest) in
-      let r₂ : Outside 0 (w + w + w + w) p p₂ = outside-then r₁ (outside-wide 0 (w + w + w + w) (omega arith) (omega arith) (y .rest)) in
+      let r₂ : Outside 0 (w + w + w + w) p p₂ =
+      outside-then r₁ (outside-wide 0 (w + w + w + w) (omega arith) (omega arith) (y .rest)) in
       let own : setAt p₂ w 0 ≡ setAt p w 0 = below (y .rest) w 0 (omega arith) ∙ below (x .rest) w 0 (omega arith) in
       let mask : setAt p₂ w m ≡ setAt p w m = above r₂ w m (omega arith) in
-      let kept : setAt p₃ w (w + w + w) ≡ setAt p₁ w (w + w + w) = above (z .rest) w (w + w + w) (omega arith) ∙ above (y .rest) w (w + w + w) (omega arith) in
+      let kept : setAt p₃ w (w + w + w) ≡ setAt p₁ w (w + w + w) = above (z .rest) w (w + w + w) (omega arith)
+      ∙ above (y .rest) w (w + w + w) (omega arith) in
       record {
         kept = kept ∙ x .here;
         own = z .own ∙ ap₂ (λ (X Y : Set). X ∩ Y) own (ap₂ (λ (X Y : Set). X ∪ Y) (y .here ∙ sym kept)
-            (ap (λ (S : Set). beside p₂ w S graph n) (ap₂ (λ (X Y : Set). X ∩ Y) own mask) ∙ beside-same w _ graph n r₂ (omega arith)));
+            (ap (λ (S : Set). beside p₂ w S graph n) (ap₂ (λ (X Y : Set). X ∩ Y) own mask)
+            ∙ beside-same w _ graph n r₂ (omega arith)));
         rest = outside-then r₂ (outside-wide 0 (w + w + w + w) (omega arith) (omega arith) (z .rest));
       }

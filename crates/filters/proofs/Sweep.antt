@@ -19,7 +19,7 @@ use Rattle.cliques.proofs.Graph.{clique-move}
 module _ (G : Graph) where
   open Graph G using (n, k, cls, adj)
 
-  near-mono : (L M : Set) (u e : ℕ) → L ⊆ M → near G L u e ≡ true → near G M u e ≡ true
+  pub near-mono : (L M : Set) (u e : ℕ) → L ⊆ M → near G L u e ≡ true → near G M u e ≡ true
   unfolding near
   near-mono L M u e s = any-mono n _ _ (λ w l h. and-in (s w (and-l (L w) _ h)) (and-r (L w) _ h))
 
@@ -34,7 +34,9 @@ module _ (G : Graph) where
       go : (not (eqb (cls u) m) ≡ true) ⊎ (all m (λ e. ltb e d || near G L u e) ≡ true)
           → (not (eqb (cls u) m) || all m (λ e. ltb e d || near G M u e)) ≡ true
       go (inl x) = or-l _ x
-      go (inr x) = or-r (not (eqb (cls u) m)) (all-in m _ (λ e l. one e (or-case (ltb e d) (near G L u e) (all-out m (λ e. ltb e d || near G L u e) x e l))))
+      go (inr x) = or-r (not (eqb (cls u) m))
+          (all-in m _ (λ e l. one e (or-case (ltb e d) (near G L u e)
+          (all-out m (λ e. ltb e d || near G L u e) x e l))))
 
   sweepTo-strikes : (m d : ℕ) (L : Set) → sweepTo G m d L ⊆ L
   unfolding sweepTo
@@ -44,26 +46,32 @@ module _ (G : Graph) where
   sweepTo-mono : (m d : ℕ) (L M : Set) → L ⊆ M → sweepTo G m d L ⊆ sweepTo G m d M
   unfolding sweepTo
   sweepTo-mono zero d L M s = s
-  sweepTo-mono (suc m) d L M s = meet-mono _ _ _ _ (sweepTo-mono m d L M s) (λ u x. reached-mono d m _ _ u (sweepTo-mono m d L M s))
+  sweepTo-mono (suc m) d L M s =
+      meet-mono _ _ _ _ (sweepTo-mono m d L M s) (λ u x. reached-mono d m _ _ u (sweepTo-mono m d L M s))
 
-  reached-clique : (m d : ℕ) (L : Set) (c : ℕ → ℕ) → m < k → Clique G d L c → (j : ℕ) → d ≤ j → j < k → reached G d m L (c j) ≡ true
+  reached-clique : (m d : ℕ) (L : Set) (c : ℕ → ℕ) → m < k → Clique G d L c → (j : ℕ) → d ≤ j → j < k
+      → reached G d m L (c j) ≡ true
   unfolding reached near
   reached-clique m d L c l p j a b = bool (eqb (cls (c j)) m)
-      (λ q. or-r (not (eqb (cls (c j)) m)) (all-in m _ (λ e x. bool (ltb e d) (λ t. or-l _ t) (λ t. or-r (ltb e d) (seen e x (ltb-false e d t) (eqb-true (cls (c j)) m q))))))
+      (λ q. or-r (not (eqb (cls (c j)) m))
+      (all-in m _ (λ e x. bool (ltb e d) (λ t. or-l _ t)
+      (λ t. or-r (ltb e d) (seen e x (ltb-false e d t) (eqb-true (cls (c j)) m q))))))
       (λ q. or-l _ (not-in q))
     where
       seen : (e : ℕ) → e < m → d ≤ e → cls (c j) ≡ m → any n (λ w. L w && (eqb (cls w) e && adj (c j) w)) ≡ true
       seen e x y z =
           let w = p .at e y (omega arith) in
           let jm = p .at j a b .cl in
-          any-in n _ (c e) (w .lt) (and-in (w .live) (and-in (eq-eqb _ _ (w .cl)) (p .joined j e a b y (omega arith) (λ q. omega arith))))
+          any-in n _ (c e) (w .lt) (and-in (w .live)
+          (and-in (eq-eqb _ _ (w .cl)) (p .joined j e a b y (omega arith) (λ q. omega arith))))
 
   sweepTo-keeps : (m d : ℕ) (L : Set) (c : ℕ → ℕ) → m ≤ k → Clique G d L c → Clique G d (sweepTo G m d L) c
   unfolding sweepTo
   sweepTo-keeps zero d L c l p = p
   sweepTo-keeps (suc m) d L c l p =
       let q = sweepTo-keeps m d L c (omega arith) p in
-      clique-move G d (sweepTo G m d L) _ c q (λ j a b. meet-in (sweepTo G m d L) _ (c j) (q .at j a b .live) (reached-clique m d _ c l q j a b))
+      clique-move G d (sweepTo G m d L) _ c q (λ j a b. meet-in (sweepTo G m d L) _ (c j) (q .at j a b .live)
+      (reached-clique m d _ c l q j a b))
 
   pub sweep-promise : Promise G (sweep G)
   unfolding sweep

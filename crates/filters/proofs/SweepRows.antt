@@ -1,5 +1,6 @@
--- The colour sweep as the code has it: class by class, each strikes in all later classes whoever has no live neighbour in it. `push` is what is left
--- after the classes below e have struck, said with the whole sweep S: when a class strikes, it is already as S leaves it.
+-- The colour sweep as the code has it: class by class, each strikes in all later classes whoever has no live neighbour
+-- in it. `push` is what is left after the classes below e have struck, said with the whole sweep S: when a class
+-- strikes, it is already as S leaves it.
 use mathlib.Core.Path.{_≡_, refl, sym, ap, ap₂, _∙_, fun-ext}
 use mathlib.Core.Bool.{Bool, true, false, _&&_, _||_}
 use mathlib.Core.List.{List}
@@ -16,7 +17,8 @@ use Rattle.sets.proofs.Below.{any-same, all-same, all-in, all-out}
 use Rattle.rows.specs.Rows.{setAt, rowAt, Outside}
 use Rattle.rows.proofs.Rows.{above, outside-none, outside-then}
 use Rattle.cliques.specs.Graph.{Graph, isOpen}
-use Rattle.cliques.specs.Words.{Held, Remains, Node}
+use Rattle.cliques.specs.Words.{ownRow, threeRows, fourRows, Held, Remains, Node, Room}
+use Rattle.cliques.specs.declared.Place.{Place}
 use Rattle.filters.specs.Filtered.{Filtered}
 use Rattle.filters.specs.Reach.{beside, SweptBy}
 use Rattle.filters.specs.Sweep.{near, reached, sweepTo, sweep}
@@ -35,7 +37,9 @@ and-assoc false b c = refl
 ltb-more : (a e : ℕ) → (ltb a e || eqb a e) ≡ ltb a (e + 1)
 ltb-more a e = iff _ _
     (λ h. pick (or-case (ltb a e) (eqb a e) h))
-    (λ h. let r = ltb-true a (e + 1) h in bool (eqb a e) (λ t. or-r (ltb a e) t) (λ t. or-l _ (lt-ltb a e (less r (λ q. clash (eqb a e) (eq-eqb a e q) t)))))
+    (λ h. let r = ltb-true a (e + 1) h in
+    bool (eqb a e) (λ t. or-r (ltb a e) t)
+    (λ t. or-l _ (lt-ltb a e (less r (λ q. clash (eqb a e) (eq-eqb a e q) t)))))
   where
     less : a < e + 1 → (a ≡ e → ⊥) → a < e
     less r ne = omega arith
@@ -45,7 +49,8 @@ ltb-more a e = iff _ _
     pick (inr t) = let r = eqb-true a e t in lt-ltb a (e + 1) (omega arith)
 
 ltb-leb : (a e : ℕ) → ltb a (e + 1) ≡ leb a e
-ltb-leb a e = iff _ _ (λ h. let r = ltb-true a (e + 1) h in le-leb a e (omega arith)) (λ h. let r = leb-true a e h in lt-ltb a (e + 1) (omega arith))
+ltb-leb a e = iff _ _ (λ h. let r = ltb-true a (e + 1) h in le-leb a e (omega arith)) (λ h. let r = leb-true a e h in
+    lt-ltb a (e + 1) (omega arith))
 
 module _ (G : Graph) where
   open Graph G using (n, k, cls, adj)
@@ -79,22 +84,29 @@ module _ (G : Graph) where
 
   after-all : (m d : ℕ) (L : Set) (u : ℕ) → cls u < m → m ≤ k → sweep G d L u ≡ sweepTo G m d L u
   unfolding sweep
-  after-all m d L u h l = let z : k ≡ (k - m) + m = omega arith in ap (λ (j : ℕ). sweepTo G j d L u) z ∙ after (k - m) m d L u h
+  after-all m d L u h l = let z : k ≡ (k - m) + m = omega arith in ap (λ (j : ℕ). sweepTo G j d L u) z
+      ∙ after (k - m) m d L u h
 
-  in-turn : (d : ℕ) (L : Set) (u : ℕ) → sweepTo G (suc (cls u)) d L u ≡ (sweepTo G (cls u) d L u && all (cls u) (λ e. ltb e d || near G (sweepTo G (cls u) d L) u e))
+  in-turn : (d : ℕ) (L : Set) (u : ℕ)
+      → sweepTo G (suc (cls u)) d L u
+      ≡ (sweepTo G (cls u) d L u && all (cls u) (λ e. ltb e d || near G (sweepTo G (cls u) d L) u e))
   unfolding sweepTo reached _∩_
   in-turn d L u = rw (eq-eqb (cls u) (cls u) refl) refl
 
   -- who stays in the sweep: whoever has a neighbour that stays in each earlier class that remains
-  pub swept : (d : ℕ) (L : Set) (u : ℕ) → cls u < k → sweep G d L u ≡ (L u && all (cls u) (λ e. ltb e d || near G (sweep G d L) u e))
+  pub swept : (d : ℕ) (L : Set) (u : ℕ) → cls u < k
+      → sweep G d L u ≡ (L u && all (cls u) (λ e. ltb e d || near G (sweep G d L) u e))
   swept d L u h =
       after-all (suc (cls u)) d L u (omega arith) (omega arith) ∙ own
     where
-      same : (e : ℕ) → e < cls u → (ltb e d || near G (sweepTo G (cls u) d L) u e) ≡ (ltb e d || near G (sweep G d L) u e)
-      same e l = ap (λ (b : Bool). ltb e d || b) (near-same _ _ u e (λ w q. sym (after-all (cls u) d L w (omega arith) (omega arith))))
+      same : (e : ℕ) → e < cls u → (ltb e d || near G (sweepTo G (cls u) d L) u e)
+          ≡ (ltb e d || near G (sweep G d L) u e)
+      same e l = ap (λ (b : Bool). ltb e d || b)
+          (near-same _ _ u e (λ w q. sym (after-all (cls u) d L w (omega arith) (omega arith))))
 
       own : sweepTo G (suc (cls u)) d L u ≡ (L u && all (cls u) (λ e. ltb e d || near G (sweep G d L) u e))
-      own = in-turn d L u ∙ ap₂ (λ (a b : Bool). a && b) (before (cls u) d L u (omega arith)) (all-same (cls u) _ _ same)
+      own = in-turn d L u ∙ ap₂ (λ (a b : Bool). a && b) (before (cls u) d L u (omega arith))
+          (all-same (cls u) _ _ same)
 
   -- what is left after the classes below e have struck, where S is the whole sweep
   unfoldable pub push : ℕ → Set → Set → ℕ → Set
@@ -108,7 +120,9 @@ module _ (G : Graph) where
   -- the class whose turn it is
   push-here : (d e : ℕ) (L : Set) (w : ℕ) → e < k → cls w ≡ e → push d (sweep G d L) L e w ≡ sweep G d L w
   unfolding push
-  push-here d e L w l q = sym (swept d L w (omega arith) ∙ ap (λ (b : Bool). L w && b) (rw q (all-same e _ _ (λ x m. ap (λ (b : Bool). ltb x d || b) (rw (not-le x m) refl)))))
+  push-here d e L w l q = sym (swept d L w (omega arith)
+      ∙ ap (λ (b : Bool). L w && b) (rw q
+      (all-same e _ _ (λ x m. ap (λ (b : Bool). ltb x d || b) (rw (not-le x m) refl)))))
     where
       not-le : (x : ℕ) → x < e → leb e x ≡ false
       not-le x m = is-false (leb e x) (λ t. let r = leb-true e x t in omega arith)
@@ -120,19 +134,24 @@ module _ (G : Graph) where
       (λ t. ap (λ (b : Bool). L u && b) (go u (f u t)) ∙ sym (swept d L u (f u t)))
       (λ t. rw t refl ∙ sym (is-false (sweep G d L u) (λ x. clash (L u) (sweep-promise G .strikes d L u x) t))))
     where
-      go : (u : ℕ) → cls u < k → all k (λ x. ltb x d || (leb (cls u) x || near G (sweep G d L) u x)) ≡ all (cls u) (λ e. ltb e d || near G (sweep G d L) u e)
+      go : (u : ℕ) → cls u < k → all k (λ x. ltb x d || (leb (cls u) x || near G (sweep G d L) u x))
+          ≡ all (cls u) (λ e. ltb e d || near G (sweep G d L) u e)
       go u l = iff _ _
-          (λ h. all-in (cls u) _ (λ x m. less x m (all-out k (λ x. ltb x d || (leb (cls u) x || near G (sweep G d L) u x)) h x (omega arith))))
+          (λ h. all-in (cls u) _ (λ x m. less x m
+          (all-out k (λ x. ltb x d || (leb (cls u) x || near G (sweep G d L) u x)) h x (omega arith))))
           (λ h. all-in k _ (λ x m. bool (leb (cls u) x) (λ t. or-r (ltb x d) (or-l _ t))
           (λ t. more x (all-out (cls u) (λ e. ltb e d || near G (sweep G d L) u e) h x (leb-false _ _ t)))))
         where
-          less : (x : ℕ) → x < cls u → (ltb x d || (leb (cls u) x || near G (sweep G d L) u x)) ≡ true → (ltb x d || near G (sweep G d L) u x) ≡ true
+          less : (x : ℕ) → x < cls u → (ltb x d || (leb (cls u) x || near G (sweep G d L) u x)) ≡ true
+              → (ltb x d || near G (sweep G d L) u x) ≡ true
           less x m h = rw (is-false (leb (cls u) x) (λ t. let r = leb-true (cls u) x t in omega arith)) at h
 
-          more : (x : ℕ) → (ltb x d || near G (sweep G d L) u x) ≡ true → (ltb x d || (leb (cls u) x || near G (sweep G d L) u x)) ≡ true
+          more : (x : ℕ) → (ltb x d || near G (sweep G d L) u x) ≡ true
+              → (ltb x d || (leb (cls u) x || near G (sweep G d L) u x)) ≡ true
           more x h = pick (or-case (ltb x d) _ h)
             where
-              pick : (ltb x d ≡ true) ⊎ (near G (sweep G d L) u x ≡ true) → (ltb x d || (leb (cls u) x || near G (sweep G d L) u x)) ≡ true
+              pick : (ltb x d ≡ true) ⊎ (near G (sweep G d L) u x ≡ true)
+                  → (ltb x d || (leb (cls u) x || near G (sweep G d L) u x)) ≡ true
               pick (inl t) = or-l _ t
               pick (inr t) = or-r (ltb x d) (or-r (leb (cls u) x) t)
 
@@ -141,19 +160,21 @@ module _ (G : Graph) where
   push-out d e S L u h = rw h refl
 
   -- a turn
-  pub push-more : (d e : ℕ) (S L : Set) (u : ℕ) → d ≤ e → push d S L (suc e) u ≡ (push d S L e u && (leb (cls u) e || near G S u e))
+  pub push-more : (d e : ℕ) (S L : Set) (u : ℕ) → d ≤ e
+      → push d S L (suc e) u ≡ (push d S L e u && (leb (cls u) e || near G S u e))
   unfolding push all
   push-more d e S L u l = rw (is-false (ltb e d) (λ t. omega (arith, ltb-true e d t))) (sym (and-assoc (L u) _ _))
 
 -- the words
 
 -- the rows of the live vertices of a class, united, have whoever has a live neighbour in it
-pub near-beside : {G : Graph} {w masks graph n k : ℕ} {p : List ℕ} → Held G w masks graph n k p → (L : Set) (e u : ℕ) → e < k → u < n
-    → beside p w (L ∩ rowAt p w masks e) graph n u ≡ near G L u e
+pub near-beside : {G : Graph} {place : Place} {p : List ℕ} → Held G place p → (L : Set) (e u : ℕ) → e < place .k
+    → u < place .n
+    → beside p (place .w) (L ∩ rowAt p (place .w) (place .masks) e) (place .graph) (place .n) u ≡ near G L u e
 unfolding beside near _∩_
-near-beside {G} {w} {masks} {graph} {n} {k} {p} H L e u l h =
-    any-same n _ (λ v. L v && (eqb (G .cls v) e && G .adj u v)) (λ v m.
-    and-assoc (L v) (rowAt p w masks e v) (rowAt p w graph v u)
+near-beside {G} {place} {p} H L e u l h =
+    any-same (place .n) _ (λ v. L v && (eqb (G .cls v) e && G .adj u v)) (λ v m.
+    and-assoc (L v) (rowAt p (place .w) (place .masks) e v) (rowAt p (place .w) (place .graph) v u)
     ∙ ap₂ (λ (a b : Bool). L v && (a && b)) (H .mask e v l m) (H .edge v u m h ∙ H .sy v u m h))
     ∙ ap (λ (j : ℕ). any j (λ v. L v && (eqb (G .cls v) e && G .adj u v))) (sym (H .size))
 
@@ -166,14 +187,17 @@ pub swept-none : (G : Graph) (d : ℕ) (L kept : Set) → Remains G d L → kept
 unfolding nothing
 swept-none G d L kept R z = record {
   live = sym (push-none G d (sweep G d L) L);
-  stay = λ u h. ap (λ (X : Set). X u) z ∙ sym (is-false (ltb (G .cls u) d) (λ t. let r = R u h .1 in omega (arith, ltb-true (G .cls u) d t)));
+  stay = λ u h. ap (λ (X : Set). X u) z
+      ∙ sym (is-false (ltb (G .cls u) d) (λ t. let r = R u h .1 in omega (arith, ltb-true (G .cls u) d t)));
 }
 
-module _ {G : Graph} {d w masks graph n k : ℕ} {p : List ℕ} (N : Node G d w masks graph n k p) where
-  pub swept-more : {own kept own′ kept′ : Set} {e : ℕ} → d ≤ e → e < k → Swept G d (setAt p w 0) own kept e
+module _ {G : Graph} {d : ℕ} {place : Place} {p : List ℕ} (N : Node G d place p) where
+  open Place place using (w, masks, graph, n, k)
+
+  pub swept-more : {own kept own′ kept′ : Set} {e : ℕ} → d ≤ e → e < k → Swept G d (ownRow place p) own kept e
       → kept′ ≡ kept ∪ rowAt p w masks e
       → own′ ≡ own ∩ (kept′ ∪ beside p w (own ∩ rowAt p w masks e) graph n)
-      → Swept G d (setAt p w 0) own′ kept′ (e + 1)
+      → Swept G d (ownRow place p) own′ kept′ (e + 1)
   unfolding _∩_ _∪_
   swept-more {own} {kept} {own′} {kept′} {e} a l W x y = record {
     live = y ∙ fun-ext (λ u. bool (L u) (inn u) (out u)) ∙ ap (push G d S L) (sym (add-one e));
@@ -181,7 +205,7 @@ module _ {G : Graph} {d w masks graph n k : ℕ} {p : List ℕ} (N : Node G d w 
   }
     where
       L : Set
-      L = setAt p w 0
+      L = ownRow place p
 
       S : Set
       S = sweep G d L
@@ -190,57 +214,69 @@ module _ {G : Graph} {d w masks graph n k : ℕ} {p : List ℕ} (N : Node G d w 
       small u h = let r = N .live u h .0 in omega (arith, N .held .size)
 
       stays : (u : ℕ) → L u ≡ true → kept′ u ≡ ltb (G .cls u) (e + 1)
-      stays u h = ap (λ (X : Set). X u) x ∙ ap₂ (λ (a b : Bool). a || b) (W .stay u h) (N .held .mask e u l (small u h)) ∙ ltb-more (G .cls u) e
+      stays u h = ap (λ (X : Set). X u) x ∙ ap₂ (λ (a b : Bool). a || b) (W .stay u h) (N .held .mask e u l (small u h))
+          ∙ ltb-more (G .cls u) e
 
       mine : (v : ℕ) → G .cls v ≡ e → own v ≡ S v
       mine v q = ap (λ (X : Set). X v) (W .live) ∙ push-here G d e L v (omega (arith, N .held .classes)) q
 
-      inn : (u : ℕ) → L u ≡ true → (own u && (kept′ u || beside p w (own ∩ rowAt p w masks e) graph n u)) ≡ push G d S L (suc e) u
+      inn : (u : ℕ) → L u ≡ true → (own u && (kept′ u || beside p w (own ∩ rowAt p w masks e) graph n u))
+          ≡ push G d S L (suc e) u
       inn u h =
           ap₂ (λ (a b : Bool). a && b) (ap (λ (X : Set). X u) (W .live))
-          (ap₂ (λ (a b : Bool). a || b) (stays u h ∙ ltb-leb (G .cls u) e) (near-beside (N .held) own e u l (small u h) ∙ near-same G own S u e mine))
+          (ap₂ (λ (a b : Bool). a || b) (stays u h ∙ ltb-leb (G .cls u) e) (near-beside (N .held) own e u l (small u h)
+          ∙ near-same G own S u e mine))
           ∙ sym (push-more G d e S L u a)
 
-      out : (u : ℕ) → L u ≡ false → (own u && (kept′ u || beside p w (own ∩ rowAt p w masks e) graph n u)) ≡ push G d S L (suc e) u
+      out : (u : ℕ) → L u ≡ false → (own u && (kept′ u || beside p w (own ∩ rowAt p w masks e) graph n u))
+          ≡ push G d S L (suc e) u
       out u h = rw (ap (λ (X : Set). X u) (W .live) ∙ push-out G d e S L u h) (sym (push-out G d (suc e) S L u h))
 
-  pub swept-all : {own kept : Set} {e : ℕ} → k ≤ e → e ≤ k → Swept G d (setAt p w 0) own kept e → own ≡ sweep G d (setAt p w 0)
+  pub swept-all : {own kept : Set} {e : ℕ} → k ≤ e → e ≤ k → Swept G d (ownRow place p) own kept e
+      → own ≡ sweep G d (ownRow place p)
   swept-all {own} {kept} {e} a b W =
       let q : e ≡ G .k = omega (arith, N .held .classes) in
-      W .live ∙ ap (push G d (sweep G d (setAt p w 0)) (setAt p w 0)) q
-      ∙ push-all G d (setAt p w 0) (λ u h. let r = N .live u h .0 in let f = N .held .few u (omega (arith, N .held .size)) in omega (arith, N .held .classes))
+      W .live ∙ ap (push G d (sweep G d (ownRow place p)) (ownRow place p)) q
+      ∙ push-all G d (ownRow place p) (λ u h. let r = N .live u h .0 in
+      let f = N .held .few u (omega (arith, N .held .size)) in omega (arith, N .held .classes))
 
 -- the loop of `sweep`
 
-pub record Sweeping (d w masks graph n k : ℕ) (p₀ p : List ℕ) (e : ℕ) : Type 0 where
+pub record Sweeping (d : ℕ) (place : Place) (p₀ p : List ℕ) (e : ℕ) : Type 0 where
   pub from : d ≤ e
-  pub upto : e ≤ k
-  pub rest : Outside 0 (w + w + w + w) p₀ p
-  pub so : (G : Graph) → Node G d w masks graph n k p₀ → Swept G d (setAt p₀ w 0) (setAt p w 0) (setAt p w (w + w + w)) e
+  pub upto : e ≤ place .k
+  pub rest : Outside 0 (fourRows place) p₀ p
+  pub so : (G : Graph) → Node G d place p₀
+      → Swept G d (ownRow place p₀) (ownRow place p) (setAt p (place .w) (threeRows place)) e
 
-module _ {d w masks graph n k : ℕ} {p₀ : List ℕ} where
-  pub sweeping-none : d ≤ k → setAt p₀ w (w + w + w) ≡ nothing → Sweeping d w masks graph n k p₀ p₀ d
+module _ {d : ℕ} {place : Place} {p₀ : List ℕ} where
+  open Place place using (w, masks, graph, n, k)
+
+  pub sweeping-none : d ≤ k → setAt p₀ w (w + w + w) ≡ nothing → Sweeping d place p₀ p₀ d
   sweeping-none l x = record {
     from = omega arith;
     upto = l;
     rest = outside-none _ _ p₀;
-    so = λ G N. swept-none G d (setAt p₀ w 0) (setAt p₀ w (w + w + w)) (N .live) x;
+    so = λ G N. swept-none G d (ownRow place p₀) (setAt p₀ w (w + w + w)) (N .live) x;
   }
 
-  pub sweeping-more : {p q : List ℕ} {e m : ℕ} → w + w + w + w ≤ masks → w + w + w + w ≤ graph → Sweeping d w masks graph n k p₀ p e → e < k
-      → m ≡ masks + e * w → SweptBy w m graph n p q → Sweeping d w masks graph n k p₀ q (e + 1)
-  sweeping-more {p} {q} {e} {m} a b F l g x =
+  pub sweeping-more : {p q : List ℕ} {e m len : ℕ} → Room (w + w + w + w) place len → Sweeping d place p₀ p e → e < k
+      → m ≡ masks + e * w → SweptBy w m graph n p q → Sweeping d place p₀ q (e + 1)
+  sweeping-more {p} {q} {e} {m} R F l g x =
       let row : setAt p w m ≡ rowAt p₀ w masks e = ap (setAt p w) g ∙ above (F .rest) w (masks + e * w) (omega arith) in
       record {
         from = omega (arith, F .from);
         upto = omega arith;
         rest = outside-then (F .rest) (x .rest);
         so = λ G N. swept-more N (F .from) l (F .so G N) (x .kept ∙ ap (λ (X : Set). setAt p w (w + w + w) ∪ X) row)
-            (x .own ∙ ap (λ (X : Set). setAt p w 0 ∩ (setAt q w (w + w + w) ∪ X))
-            (ap (λ (X : Set). beside p w (setAt p w 0 ∩ X) graph n) row ∙ beside-same w _ graph n (F .rest) b));
+            (x .own ∙ ap (λ (X : Set). ownRow place p ∩ (setAt q w (w + w + w) ∪ X))
+            (ap (λ (X : Set). beside p w (ownRow place p ∩ X) graph n) row
+            ∙ beside-same w _ graph n (F .rest) (R .graph-after)));
       }
 
-  pub sweeping-all : {p : List ℕ} {e : ℕ} {r : Bool} → w + w + w + w ≤ masks → w + w + w + w ≤ graph → Sweeping d w masks graph n k p₀ p e → k ≤ e
-      → ((G : Graph) → Node G d w masks graph n k p → r ≡ isOpen G d (setAt p w 0))
-      → Filtered sweep (w + w + w + w) d w masks graph n k p₀ p r
-  sweeping-all {p} {e} {r} a b F l z = filtered (λ G L. sweep-promise G .strikes d L) a b (F .rest) (λ G N. swept-all N l (F .upto) (F .so G N)) z
+  pub sweeping-all : {p : List ℕ} {e len : ℕ} {r : Bool} → Room (w + w + w + w) place len → Sweeping d place p₀ p e
+      → k ≤ e
+      → ((G : Graph) → Node G d place p → r ≡ isOpen G d (ownRow place p))
+      → Filtered sweep (w + w + w + w) d place p₀ p r
+  sweeping-all {p} {e} R F l z = filtered (λ G L. sweep-promise G .strikes d L) R (F .rest)
+      (λ G N. swept-all N l (F .upto) (F .so G N)) z

@@ -16,7 +16,8 @@ module _ (G : Graph) where
   after : Filter → Filter → Filter
   after F H d L = H d (F d L)
 
-  after-refines : (F′ F H′ H : Filter) → Refines G F′ F → Refines G H′ H → ((d : ℕ) (L : Set) → H′ d L ⊆ L) → Refines G (after F′ H′) (after F H)
+  after-refines : (F′ F H′ H : Filter) → Refines G F′ F → Refines G H′ H → ((d : ℕ) (L : Set) → H′ d L ⊆ L)
+      → Refines G (after F′ H′) (after F H)
   unfolding after
   after-refines F′ F H′ H f h t d L M s o = h d _ _ (f d L M s (open-mono G d _ _ (t d (F′ d L)) o)) o
 
@@ -49,9 +50,12 @@ module _ (G : Graph) where
 
   pub atNode-promise : (f : ℕ) → Promise G (atNode f G)
   unfolding atNode after
-  atNode-promise f = after-promise _ _ (on-promise (switched f 2) _ (sweep-promise G)) (on-promise (switched f 4) _ (failed-promise G))
+  atNode-promise f = after-promise _ _ (on-promise (switched f 2) _ (sweep-promise G))
+      (on-promise (switched f 4) _ (failed-promise G))
 
   pub atNode-refines : (f′ f : ℕ) → Adds f′ f → Refines G (atNode f′ G) (atNode f G)
   unfolding atNode after
-  atNode-refines f′ f a = after-refines _ _ _ _ (on-refines (switched f′ 2) (switched f 2) _ (sweep-promise G) (a .swept))
-      (on-refines (switched f′ 4) (switched f 4) _ (failed-promise G) (a .unit)) (on-promise (switched f′ 4) _ (failed-promise G) .strikes)
+  atNode-refines f′ f a = after-refines _ _ _ _ (on-refines (switched f′ 2) (switched f 2) _ (sweep-promise G)
+      (a .swept))
+      (on-refines (switched f′ 4) (switched f 4) _ (failed-promise G) (a .unit))
+      (on-promise (switched f′ 4) _ (failed-promise G) .strikes)

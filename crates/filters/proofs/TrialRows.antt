@@ -12,7 +12,7 @@ use borrow.Author.Tests.{eqb-true, eq-eqb}
 use borrow.Rule.Slice.PartMut.{midOf, putMid}
 use Rattle.sets.specs.Below.{count}
 use Rattle.sets.specs.Sets.{Set, _⊆_, _∩_, _∪_, _∖_, just}
-use Rattle.sets.proofs.Tests.{clash, bool, not-in, below as upto}
+use Rattle.sets.proofs.Tests.{clash, bool, not-in}
 use Rattle.sets.proofs.Below.{count-none}
 use Rattle.sets.proofs.Sets.{meet-l, without-sub, count-without}
 use Rattle.vset.specs.Words.{Least}
@@ -21,9 +21,10 @@ use Rattle.vset.proofs.Count.{count-gap, count-next}
 use Rattle.rows.proofs.Parts.{tail-set, tail-back}
 use Rattle.rows.proofs.Rows.{row-member, above, below, outside-then, outside-wide}
 use Rattle.cliques.specs.Graph.{Graph, At, size, two, lower, higher, isOpen}
-use Rattle.cliques.specs.Words.{Node}
+use Rattle.cliques.specs.Words.{ownRow, behind, twoRows, fourRows, Node, Room}
 use Rattle.cliques.proofs.Graph.{Pair, size-pos, size-without, without-at, two-pair, swap}
-use Rattle.cliques.proofs.Words.{held-same, held-tail, node-less}
+use Rattle.cliques.proofs.Words.{held-same, held-behind, node-less}
+use Rattle.cliques.specs.declared.Place.{Place}
 use Rattle.filters.specs.Failed.{alone, refuted, failed}
 use Rattle.filters.specs.Filtered.{Filtered}
 use Rattle.filters.specs.Step.{OnTheWay, Stepped, OneOfTwo, Stands, BothStand}
@@ -33,17 +34,19 @@ use Rattle.filters.specs.declared.Step.the-variants.{Shut, Open}
 use Rattle.filters.proofs.Failed.{Closed, refuted-out, failed-greatest}
 use Rattle.filters.proofs.Masks.{seen-at, size-words, Counted, in-mask, counted-size}
 use Rattle.filters.proofs.Promise.{way-start, way-in, way-shut, shut-start}
-use Rattle.filters.proofs.Steps.{not-shut, open-is, step-none, step-shut, step-says, step-over, steps-shut, steps-then}
+use Rattle.filters.proofs.Steps.{not-shut, open-is, step-none, step-shut, step-says, step-over, steps-shut}
+use Rattle.filters.proofs.Steps.{steps-then}
 use Rattle.filters.proofs.Unit.{unit-greatest}
 
 -- a alone in its class
-alone-words : {G : Graph} {d w masks graph n k : ℕ} {p : List ℕ} → Node G d w masks graph n k p → (c a : ℕ) → c < k → At G c a (setAt p w 0)
-    → (setAt p w 0 ∖ rowAt p w masks c) ∪ just a ≡ alone G a (setAt p w 0)
+alone-words : {G : Graph} {d : ℕ} {place : Place} {p : List ℕ} → Node G d place p → (c a : ℕ) → c < place .k
+    → At G c a (ownRow place p)
+    → (ownRow place p ∖ rowAt p (place .w) (place .masks) c) ∪ just a ≡ alone G a (ownRow place p)
 unfolding _∩_ _∪_ _∖_ just alone
-alone-words {G} {d} {w} {masks} {graph} {n} {k} {p} N c a l h = fun-ext (λ u. bool (eqb u a) (same u) (other u))
+alone-words {G} {d} {place} {p} N c a l h = fun-ext (λ u. bool (eqb u a) (same u) (other u))
   where
     L : Set
-    L = setAt p w 0
+    L = ownRow place p
 
     or-true : (x : Bool) → (x || true) ≡ true
     or-true true = refl
@@ -53,15 +56,20 @@ alone-words {G} {d} {w} {masks} {graph} {n} {k} {p} N c a l h = fun-ext (λ u. b
     or-no true = refl
     or-no false = refl
 
-    same : (u : ℕ) → eqb u a ≡ true → ((L u && not (rowAt p w masks c u)) || eqb u a) ≡ (L u && (not (eqb (G .cls u) (G .cls a)) || eqb u a))
+    same : (u : ℕ) → eqb u a ≡ true → ((L u && not (rowAt p (place .w) (place .masks) c u)) || eqb u a)
+        ≡ (L u && (not (eqb (G .cls u) (G .cls a)) || eqb u a))
     same u e =
         let q = eqb-true u a e in
         let t : L u ≡ true = ap L q ∙ h .live in
-        rw (e, t) (or-true (not (rowAt p w masks c u)) ∙ sym (or-true (not (eqb (G .cls u) (G .cls a)))))
+        rw (e, t) (or-true (not (rowAt p (place .w) (place .masks) c u))
+        ∙ sym (or-true (not (eqb (G .cls u) (G .cls a)))))
 
-    other : (u : ℕ) → eqb u a ≡ false → ((L u && not (rowAt p w masks c u)) || eqb u a) ≡ (L u && (not (eqb (G .cls u) (G .cls a)) || eqb u a))
-    other u e = rw e (or-no (L u && not (rowAt p w masks c u)) ∙ bool (L u)
-        (λ t. let i = N .live u t .0 in ap (λ (b : Bool). L u && b) (ap not (N .held .mask c u l (omega (arith, N .held .size)) ∙ ap (eqb (G .cls u)) (sym (h .cl)))
+    other : (u : ℕ) → eqb u a ≡ false → ((L u && not (rowAt p (place .w) (place .masks) c u)) || eqb u a)
+        ≡ (L u && (not (eqb (G .cls u) (G .cls a)) || eqb u a))
+    other u e = rw e (or-no (L u && not (rowAt p (place .w) (place .masks) c u)) ∙ bool (L u)
+        (λ t. let i = N .live u t .0 in
+        ap (λ (b : Bool). L u && b) (ap not (N .held .mask c u l (omega (arith, N .held .size))
+        ∙ ap (eqb (G .cls u)) (sym (h .cl)))
         ∙ sym (or-no (not (eqb (G .cls u) (G .cls a))))))
         (λ t. rw t refl))
 
@@ -80,96 +88,127 @@ module _ (G : Graph) (c : ℕ) (L : Set) where
 
   third : (a b v : ℕ) → two G c L ≡ true → At G c a L → At G c b L → (a ≡ b → ⊥) → At G c v L → (v ≡ a) ⊎ (v ≡ b)
   unfolding two
-  third a b v t x y ne z = bool (eqb v a) (λ e. inl (eqb-true v a e)) (λ e. bool (eqb v b) (λ f. inr (eqb-true v b f)) (λ f.
+  third a b v t x y ne z = bool (eqb v a) (λ e. inl (eqb-true v a e))
+      (λ e. bool (eqb v b) (λ f. inr (eqb-true v b f)) (λ f.
       let s = eqb-true (size G c L) 2 t in
       let i = size-without G c a L x in
       let j = size-without G c b (L ∖ just a) (without-at G y (λ q. ne (sym q))) in
-      let k = size-pos G c v _ (without-at G (without-at G z (λ q. clash (eqb v a) (eq-eqb v a q) e)) (λ q. clash (eqb v b) (eq-eqb v b q) f)) in
+      let k = size-pos G c v _ (without-at G (without-at G z (λ q. clash (eqb v a) (eq-eqb v a q) e))
+      (λ q. clash (eqb v b) (eq-eqb v b q) f)) in
       absurd (omega arith)))
 
 -- the strikes of a refuted trial are strikes of the filter
 module _ (G : Graph) (d : ℕ) (L : Set) where
-  trial-way : (c a : ℕ) → d ≤ c → c < G .k → two G c L ≡ true → At G c a L → refuted G d a L ≡ true → OnTheWay G (failed G) d L (unit G d (L ∖ just a))
+  trial-way : (c a : ℕ) → d ≤ c → c < G .k → two G c L ≡ true → At G c a L → refuted G d a L ≡ true
+      → OnTheWay G (failed G) d L (unit G d (L ∖ just a))
   trial-way c a l r t h f = let p = pair-with G c L t h in
-      way-in G (Closed G) (failed G) (failed-greatest G) d L _ (λ v i. without-sub a L v (unit-greatest G .strikes d (L ∖ just a) v i))
+      way-in G (Closed G) (failed G) (failed-greatest G) d L _
+      (λ v i. without-sub a L v (unit-greatest G .strikes d (L ∖ just a) v i))
       (λ S o z s. unit-greatest G .keeps d (L ∖ just a) S o (z .0) (refuted-out G d c a (p .0) L S l r (p .1) f o z s))
 
--- `trial`
-module _ (a : ℕ) {d w masks graph n k c m : ℕ} {p p₁ p₂ ys : List ℕ} {r : Bool}
-    (A : w + w + w + w ≤ masks) (B : w + w + w + w ≤ graph) (wide : n ≤ 64 * w) (fits : w ≤ length p₂) (f : d ≤ c) (l : c < k) (e : m ≡ masks + c * w)
-    (T : OneOfTwo w masks c a p)
-    (x : Put (setAt p w 0 ∖ setAt p w m) w w p p₁) (y : Put (setAt p₁ w w ∪ just a) w w p₁ p₂)
-    (z : Filtered unit (w + w) d w (masks - w) (graph - w) n k (midOf w (length p₂ - w) p₂) ys r) where
+-- `trial`: a was made alone in class c, on a copy behind the own row, and unit steps ran there
+pub record Tested (a d : ℕ) (place : Place) (c m : ℕ) (p p₁ p₂ ys : List ℕ) (r : Bool) : Type 0 where
+  pub room : Room (fourRows place) place (length p)
+  pub from : d ≤ c
+  pub upto : c < place .k
+  pub mask : m ≡ place .masks + c * place .w
+  pub which : OneOfTwo (place .w) (place .masks) c a p
+  pub cut : Put (ownRow place p ∖ setAt p (place .w) m) (place .w) (place .w) p p₁
+  pub put : Put (setAt p₁ (place .w) (place .w) ∪ just a) (place .w) (place .w) p₁ p₂
+  pub steps : Filtered unit (twoRows place) d (behind place) (midOf (place .w) (length p₂ - place .w) p₂) ys r
+
+module _ {a d : ℕ} {place : Place} {c m : ℕ} {p p₁ p₂ ys : List ℕ} {r : Bool}
+    (t : Tested a d place c m p p₁ p₂ ys r) where
+  open Place place using (w, masks)
+  open Tested t using (room, from, upto, mask, which, cut, put, steps)
+
+  fits : w ≤ length p₂
+  fits = omega (arith, t .room, cut .rest .len, put .rest .len)
+
   out₂ : Outside w (w + w) p p₂
-  out₂ = outside-then (x .rest) (y .rest)
+  out₂ = outside-then (cut .rest) (put .rest)
 
   out₃ : Outside w (w + (w + w)) p (putMid w (length p₂ - w) p₂ ys)
-  out₃ = outside-then (outside-wide w (w + (w + w)) (omega arith) (omega arith) out₂) (tail-back w p₂ fits (z .rest))
+  out₃ = outside-then (outside-wide w (w + (w + w)) (omega arith) (omega arith) out₂)
+      (tail-back w p₂ fits (steps .rest))
 
-  own₃ : setAt (putMid w (length p₂ - w) p₂ ys) w 0 ≡ setAt p w 0
+  own₃ : ownRow place (putMid w (length p₂ - w) p₂ ys) ≡ ownRow place p
   own₃ = below out₃ w 0 (omega arith)
 
-  copy : (G : Graph) → Node G d w masks graph n k p → setAt (midOf w (length p₂ - w) p₂) w 0 ≡ alone G a (setAt p w 0)
+  copy : (G : Graph) → Node G d place p → ownRow place (midOf w (length p₂ - w) p₂) ≡ alone G a (ownRow place p)
   copy G N =
       let q : w + 0 ≡ w = omega arith in
-      tail-set w p₂ fits w 0 ∙ ap (setAt p₂ w) q ∙ y .here ∙ ap (λ (X : Set). X ∪ just a) (x .here ∙ ap (λ (i : ℕ). setAt p w 0 ∖ setAt p w i) e)
-      ∙ alone-words N c a l (seen-at N c a l (T .live))
+      tail-set w p₂ fits w 0 ∙ ap (setAt p₂ w) q ∙ put .here
+      ∙ ap (λ (X : Set). X ∪ just a) (cut .here ∙ ap (λ (i : ℕ). ownRow place p ∖ setAt p w i) mask)
+      ∙ alone-words N c a upto (seen-at N c a upto (which .live))
 
-  opens : (G : Graph) → Node G d w masks graph n k p → r ≡ isOpen G d (unit G d (alone G a (setAt p w 0)))
+  opens : (G : Graph) → Node G d place p → r ≡ isOpen G d (unit G d (alone G a (ownRow place p)))
   opens G N =
-      let M : Node G d w (masks - w) (graph - w) n k (midOf w (length p₂ - w) p₂) = record {
-        held = held-tail w fits (omega arith) (omega arith) (held-same out₂ (omega arith) (omega arith) (N .held));
-        live = λ v t. N .live v (alone-less G a (setAt p w 0) v (sym (ap (λ (X : Set). X v) (copy G N)) ∙ t));
+      let M : Node G d (behind place) (midOf w (length p₂ - w) p₂) = record {
+        held = held-behind fits (omega arith) (omega arith) (held-same out₂ (omega arith) (omega arith) (N .held));
+        live = λ v h. N .live v (alone-less G a (ownRow place p) v (sym (ap (λ (X : Set). X v) (copy G N)) ∙ h));
       } in
-      z .opens G M ∙ ap (λ (X : Set). isOpen G d (unit G d X)) (copy G N)
+      steps .opens G M ∙ ap (λ (X : Set). isOpen G d (unit G d X)) (copy G N)
 
-  pub trial-stands : r ≡ true → Stepped failed (λ G. Stands G d a) (w + w + w + w) d w masks graph n k p (putMid w (length p₂ - w) p₂ ys) (Open false)
+  pub trial-stands : r ≡ true → Stepped failed (λ G. Stands G d a) (w + w + w + w) d place p
+      (putMid w (length p₂ - w) p₂ ys) (Open false)
   unfolding refuted
   trial-stands o = record {
     rest = outside-wide 0 (w + w + w + w) (omega arith) (omega arith) out₃;
     shut = λ t. not-shut false t;
-    way = λ b t G N. rw own₃ (way-start G (Closed G) (failed G) (failed-greatest G) d (setAt p w 0));
+    way = λ b t G N. rw own₃ (way-start G (Closed G) (failed G) (failed-greatest G) d (ownRow place p));
     fewer = λ t. clash false (open-is false true t) refl;
     same = λ t. own₃;
     settled = λ t G N. rw (sym (opens G N) ∙ o) refl;
   }
 
   module _ {p₄ p₅ : List ℕ} {r₂ : Bool} (o : r ≡ false)
-      (v : Put (setAt (putMid w (length p₂ - w) p₂ ys) w 0 ∖ just a) w 0 (putMid w (length p₂ - w) p₂ ys) p₄)
-      (u : Filtered unit (w + w) d w masks graph n k p₄ p₅ r₂) where
-    own₄ : setAt p₄ w 0 ≡ setAt p w 0 ∖ just a
+      (v : Put (ownRow place (putMid w (length p₂ - w) p₂ ys) ∖ just a) w 0 (putMid w (length p₂ - w) p₂ ys) p₄)
+      (u : Filtered unit (w + w) d place p₄ p₅ r₂) where
+    own₄ : ownRow place p₄ ≡ ownRow place p ∖ just a
     own₄ = v .here ∙ ap (λ (X : Set). X ∖ just a) own₃
 
     out₄ : Outside 0 (w + w + w + w) p p₄
-    out₄ = outside-then (outside-wide 0 (w + w + w + w) (omega arith) (omega arith) out₃) (outside-wide 0 (w + w + w + w) (omega arith) (omega arith) (v .rest))
+    out₄ = outside-then (outside-wide 0 (w + w + w + w) (omega arith) (omega arith) out₃)
+        (outside-wide 0 (w + w + w + w) (omega arith) (omega arith) (v .rest))
 
     out₅ : Outside 0 (w + w + w + w) p p₅
     out₅ = outside-then out₄ (outside-wide 0 (w + w + w + w) (omega arith) (omega arith) (u .rest))
 
-    node₄ : (G : Graph) → Node G d w masks graph n k p → Node G d w masks graph n k p₄
-    node₄ G N = node-less out₄ A B (λ j h. without-sub a (setAt p w 0) j (sym (ap (λ (X : Set). X j) own₄) ∙ h)) N
+    node₄ : (G : Graph) → Node G d place p → Node G d place p₄
+    node₄ G N = node-less out₄ (room .masks-after) (room .graph-after)
+        (λ j h. without-sub a (ownRow place p) j (sym (ap (λ (X : Set). X j) own₄) ∙ h)) N
 
-    way₄ : (G : Graph) → Node G d w masks graph n k p → OnTheWay G (failed G) d (setAt p w 0) (unit G d (setAt p w 0 ∖ just a))
+    way₄ : (G : Graph) → Node G d place p
+        → OnTheWay G (failed G) d (ownRow place p) (unit G d (ownRow place p ∖ just a))
     unfolding refuted two
-    way₄ G N = trial-way G d (setAt p w 0) c a f (omega (arith, N .held .classes)) (eq-eqb (size G c (setAt p w 0)) 2 (sym (size-words N c l wide) ∙ T .both)) (seen-at N c a l (T .live))
+    way₄ G N = trial-way G d (ownRow place p) c a from (omega (arith, upto, N .held .classes))
+        (eq-eqb (size G c (ownRow place p)) 2 (sym (size-words N c upto (room .wide)) ∙ which .both))
+        (seen-at N c a upto (which .live))
         (not-in (sym (opens G N) ∙ o))
 
-    pub trial-struck : r₂ ≡ true → (r₂ ≡ true → count (64 * w) (setAt p₅ w 0) ≤ count (64 * w) (setAt p₄ w 0))
-        → Stepped failed (λ G. Stands G d a) (w + w + w + w) d w masks graph n k p p₅ (Open true)
+    pub trial-struck : r₂ ≡ true → (r₂ ≡ true → count (64 * w) (ownRow place p₅) ≤ count (64 * w) (ownRow place p₄))
+        → Stepped failed (λ G. Stands G d a) (w + w + w + w) d place p p₅ (Open true)
     trial-struck i no-more = record {
       rest = out₅;
       shut = λ t. not-shut true t;
       way = λ b t G N. rw (u .says G (node₄ G N) i, own₄) (way₄ G N);
-      fewer = λ t. let h = meet-l (setAt p w 0) (rowAt p w masks c) a (T .live) in
-          omega (arith, no-more i, ap (count (64 * w)) own₄, count-without (64 * w) (setAt p w 0) a (row-member p w 0 a h) h);
+      fewer = λ t. let h = meet-l (ownRow place p) (rowAt p w masks c) a (which .live) in
+          omega (
+            arith,
+            no-more i,
+            ap (count (64 * w)) own₄,
+            count-without (64 * w) (ownRow place p) a (row-member p w 0 a h) h,
+          );
       same = λ t. clash true refl (open-is true false t);
       settled = λ t. clash true refl (open-is true false t);
     }
 
-    pub trial-shut : r₂ ≡ false → Stepped failed (λ G. Stands G d a) (w + w + w + w) d w masks graph n k p p₅ Shut
-    trial-shut i = step-shut failed Closed failed-greatest A B out₅ (λ G N.
+    pub trial-shut : r₂ ≡ false → Stepped failed (λ G. Stands G d a) (w + w + w + w) d place p p₅ Shut
+    trial-shut i = step-shut failed Closed failed-greatest room out₅ (λ G N.
         way-shut G (Closed G) (failed G) (failed-greatest G) d _ _ (way₄ G N)
-        (shut-start G (Closed G) (failed G) (failed-greatest G) d _ (ap (λ (X : Set). isOpen G d (unit G d X)) (sym own₄) ∙ sym (u .opens G (node₄ G N)) ∙ i)))
+        (shut-start G (Closed G) (failed G) (failed-greatest G) d _
+        (ap (λ (X : Set). isOpen G d (unit G d X)) (sym own₄) ∙ sym (u .opens G (node₄ G N)) ∙ i)))
 
 -- `try_class`
 
@@ -188,50 +227,70 @@ least-two {S} {m} {a} {b} h L M = go (decLt b m)
     go (no l) =
         let i = least-one (omega arith) L in
         let z = count-none a S (λ i c t. clash (S i) t (L .none i (omega arith) c)) in
-        absurd (omega (arith, count-gap S (a + 1) m (omega arith) (λ v c e. M .none v c (omega arith)), count-next S a (L .found i)))
+        absurd (omega (
+          arith,
+          count-gap S (a + 1) m (omega arith) (λ v c e. M .none v c (omega arith)),
+          count-next S a (L .found i),
+        ))
 
-module _ {w masks graph n k c m x : ℕ} {p : List ℕ} (C : Counted (w + w + w + w) w masks graph n k c m x p) where
-  pub class-none : {d : ℕ} → (x ≡ 2 → ⊥) → Stepped failed (λ G. BothStand G d c) (w + w + w + w) d w masks graph n k p p (Open false)
+module _ {place : Place} {c m x : ℕ} {p : List ℕ} (C : Counted (fourRows place) place c m x p) where
+  open Place place using (w, masks)
+
+  pub class-none : {d : ℕ} → (x ≡ 2 → ⊥)
+      → Stepped failed (λ G. BothStand G d c) (w + w + w + w) d place p p (Open false)
   unfolding two
-  class-none h = step-none failed Closed failed-greatest (C .masks-after) (C .graph-after)
-      (λ G N t. absurd (h (sym (counted-size C N) ∙ eqb-true (size G c (setAt p w 0)) 2 t)))
+  class-none h = step-none failed Closed failed-greatest (C .room)
+      (λ G N t. absurd (h (sym (counted-size C N) ∙ eqb-true (size G c (ownRow place p)) 2 t)))
 
   -- the lower is struck, or a class is empty
-  pub lower-over : (a : ℕ) {d : ℕ} {q : List ℕ} {r : Step} → (r ≡ Open false → ⊥) → Stepped failed (λ G. Stands G d a) (w + w + w + w) d w masks graph n k p q r
-      → Stepped failed (λ G. BothStand G d c) (w + w + w + w) d w masks graph n k p q r
-  lower-over a h S = step-over failed Closed failed-greatest (C .masks-after) (C .graph-after) h S
+  pub lower-over : (a : ℕ) {d : ℕ} {q : List ℕ} {r : Step} → (r ≡ Open false → ⊥)
+      → Stepped failed (λ G. Stands G d a) (w + w + w + w) d place p q r
+      → Stepped failed (λ G. BothStand G d c) (w + w + w + w) d place p q r
+  lower-over a h S = step-over failed Closed failed-greatest (C .room) h S
 
-  module _ (z : x ≡ 2) {a : ℕ} (L : Least (setAt p w 0 ∩ setAt p w m) 0 (64 * w) a) where
+  module _ (z : x ≡ 2) {a : ℕ} (L : Least (ownRow place p ∩ setAt p w m) 0 (64 * w) a) where
     pub lower-inside : a < 64 * w
     lower-inside = least-one (omega (arith, C .is)) L
 
     pub lower-one : OneOfTwo w masks c a p
-    lower-one = record { both = sym (ap (count (64 * w)) (in-mask C)) ∙ sym (C .is) ∙ z; live = sym (ap (λ (X : Set). X a) (in-mask C)) ∙ L .found lower-inside }
+    lower-one = record {
+      both = sym (ap (count (64 * w)) (in-mask C)) ∙ sym (C .is) ∙ z;
+      live = sym (ap (λ (X : Set). X a) (in-mask C)) ∙ L .found lower-inside;
+    }
 
     -- the lower stands, so that there are two still
-    module _ {d : ℕ} {q : List ℕ} (S : Stepped failed (λ G. Stands G d a) (w + w + w + w) d w masks graph n k p q (Open false)) where
-      same : setAt q w 0 ∩ rowAt q w masks c ≡ setAt p w 0 ∩ rowAt p w masks c
-      same = ap₂ (λ (X Y : Set). X ∩ Y) (S .same refl) (above (S .rest) w (masks + c * w) (omega (arith, C .masks-after)))
+    module _ {d : ℕ} {q : List ℕ} (S : Stepped failed (λ G. Stands G d a) (w + w + w + w) d place p q
+        (Open false)) where
+      same : ownRow place q ∩ rowAt q w masks c ≡ ownRow place p ∩ rowAt p w masks c
+      same = ap₂ (λ (X Y : Set). X ∩ Y) (S .same refl)
+          (above (S .rest) w (masks + c * w) (omega (arith, C .room .masks-after)))
 
-      module _ {b : ℕ} (M : Least (setAt q w 0 ∩ setAt q w m) (a + 1) (64 * w) b) where
-        next : Least (setAt p w 0 ∩ setAt p w m) (a + 1) (64 * w) b
-        next = subst (λ (X : Set). Least X (a + 1) (64 * w) b) (ap (λ (i : ℕ). setAt q w 0 ∩ setAt q w i) (C .mask) ∙ same ∙ sym (in-mask C)) M
+      module _ {b : ℕ} (M : Least (ownRow place q ∩ setAt q w m) (a + 1) (64 * w) b) where
+        next : Least (ownRow place p ∩ setAt p w m) (a + 1) (64 * w) b
+        next = subst (λ (X : Set). Least X (a + 1) (64 * w) b) (ap (λ (i : ℕ). ownRow place q ∩ setAt q w i) (C .mask)
+            ∙ same ∙ sym (in-mask C)) M
 
-        higher-here : (setAt p w 0 ∩ rowAt p w masks c) b ≡ true
+        higher-here : (ownRow place p ∩ rowAt p w masks c) b ≡ true
         higher-here = sym (ap (λ (X : Set). X b) (in-mask C)) ∙ next .found (least-two (sym (C .is) ∙ z) L next)
 
         pub higher-one : OneOfTwo w masks c b q
-        higher-one = record { both = ap (count (64 * w)) same ∙ lower-one .both; live = ap (λ (X : Set). X b) same ∙ higher-here }
+        higher-one = record {
+          both = ap (count (64 * w)) same ∙ lower-one .both;
+          live = ap (λ (X : Set). X b) same ∙ higher-here;
+        }
 
-        both : (G : Graph) → Node G d w masks graph n k p → Stands G d a (setAt p w 0) × Stands G d b (setAt p w 0) → BothStand G d c (setAt p w 0)
-        both G N h t v i = go (third G c (setAt p w 0) a b v t (seen-at N c a (C .upto) (lower-one .live)) (seen-at N c b (C .upto) higher-here) (λ q. omega (arith, M .after)) i)
+        both : (G : Graph) → Node G d place p → Stands G d a (ownRow place p) × Stands G d b (ownRow place p)
+            → BothStand G d c (ownRow place p)
+        both G N h t v i = go (third G c (ownRow place p) a b v t (seen-at N c a (C .upto) (lower-one .live))
+            (seen-at N c b (C .upto) higher-here) (λ q. omega (arith, M .after)) i)
           where
-            go : (v ≡ a) ⊎ (v ≡ b) → Stands G d v (setAt p w 0)
+            go : (v ≡ a) ⊎ (v ≡ b) → Stands G d v (ownRow place p)
             go (inl q) = rw q (h .0)
             go (inr q) = rw q (h .1)
 
-        pub both-tried : {q₂ : List ℕ} (r : Step) → Stepped failed (λ G. Stands G d b) (w + w + w + w) d w masks graph n k q q₂ r
-            → Stepped failed (λ G. BothStand G d c) (w + w + w + w) d w masks graph n k p q₂ r
-        both-tried Shut T = steps-shut failed Closed failed-greatest (C .masks-after) (C .graph-after) false S T
-        both-tried (Open i) T = step-says failed Closed failed-greatest (C .masks-after) (C .graph-after) both
-            (steps-then failed Closed failed-greatest (C .masks-after) (C .graph-after) false S {Q = λ G L. Stands G d a L × Stands G d b L} i (λ G L u v. (u, v)) T)
+        pub both-tried : {q₂ : List ℕ} (r : Step) → Stepped failed (λ G. Stands G d b) (w + w + w + w) d place q q₂ r
+            → Stepped failed (λ G. BothStand G d c) (w + w + w + w) d place p q₂ r
+        both-tried Shut T = steps-shut failed Closed failed-greatest (C .room) false S T
+        both-tried (Open i) T = step-says failed Closed failed-greatest (C .room) both
+            (steps-then failed Closed failed-greatest (C .room) false S {Q = λ G L. Stands G d a L × Stands G d b L} i
+            (λ G L u v. (u, v)) T)

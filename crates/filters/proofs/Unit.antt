@@ -22,7 +22,8 @@ module _ (G : Graph) where
 
   -- next to a vertex alone in its class stand its neighbours only
   abbrev pub UnitClosed : ℕ → Set → Type 0
-  UnitClosed d S = (c v : ℕ) → d ≤ c → c < k → Sole G c v S → (u : ℕ) → S u ≡ true → d ≤ cls u → (cls u ≡ c → ⊥) → adj v u ≡ true
+  UnitClosed d S = (c v : ℕ) → d ≤ c → c < k → Sole G c v S → (u : ℕ) → S u ≡ true → d ≤ cls u → (cls u ≡ c → ⊥)
+      → adj v u ≡ true
 
   pub stays-out : (d c v u : ℕ) → stays G d c v u ≡ true → d ≤ cls u → (cls u ≡ c → ⊥) → adj v u ≡ true
   unfolding stays
@@ -44,7 +45,11 @@ module _ (G : Graph) where
 
   pub due-is : (d : ℕ) (t L : Set) (c : ℕ) → due G d t L c ≡ true → (d ≤ c) × (lone G c L ≡ true) × (t c ≡ false)
   unfolding due
-  due-is d t L c h = let r = and-r (leb d c) _ h in (leb-true d c (and-l (leb d c) _ h), and-l (lone G c L) _ r, not-out (t c) (and-r (lone G c L) _ r))
+  due-is d t L c h = let r = and-r (leb d c) _ h in (
+    leb-true d c (and-l (leb d c) _ h),
+    and-l (lone G c L) _ r,
+    not-out (t c) (and-r (lone G c L) _ r),
+  )
 
   due-in : (d : ℕ) (t L : Set) (c : ℕ) → d ≤ c → lone G c L ≡ true → t c ≡ false → due G d t L c ≡ true
   unfolding due
@@ -58,7 +63,8 @@ module _ (G : Graph) where
       (λ a u h. meet-l L _ u (steps-strikes f d _ _ u h)) (λ e u h. h)) (λ e u h. h)
 
   -- a step keeps each unit-closed part
-  pub strike-keeps : (d c : ℕ) (L S : Set) → isOpen G d S ≡ true → UnitClosed d S → S ⊆ L → d ≤ c → c < k → lone G c L ≡ true → S ⊆ strike G d c L
+  pub strike-keeps : (d c : ℕ) (L S : Set) → isOpen G d S ≡ true → UnitClosed d S → S ⊆ L → d ≤ c → c < k
+      → lone G c L ≡ true → S ⊆ strike G d c L
   unfolding strike
   strike-keeps d c L S o z s a b l u h = meet-in L _ u (s u h)
       (stays-in d c _ u (z c _ a b (sole-sub G S L s (open-out G d S o c a b) (lone-sole G c L l)) u h))
@@ -66,7 +72,8 @@ module _ (G : Graph) where
   steps-keeps : (f d : ℕ) (t L S : Set) → isOpen G d S ≡ true → UnitClosed d S → S ⊆ L → S ⊆ steps G f d t L
   unfolding steps
   steps-keeps zero d t L S o z s = s
-  steps-keeps (suc f) d t L S o z s = case (λ X. S ⊆ X) (isOpen G d L) _ _ (λ p. case (λ X. S ⊆ X) (any k (due G d t L)) _ _
+  steps-keeps (suc f) d t L S o z s =
+      case (λ X. S ⊆ X) (isOpen G d L) _ _ (λ p. case (λ X. S ⊆ X) (any k (due G d t L)) _ _
       (λ a. let q = due-is d t L _ (first-is k (due G d t L) a) in
       steps-keeps f d _ _ S o z (strike-keeps d _ L S o z s (q .0) (first-lt k (due G d t L) a) (q .1)))
       (λ e. s)) (λ e. s)
@@ -90,14 +97,17 @@ module _ (G : Graph) where
           let vf = s .only v (subst (λ i. At G i v L) ec b) in
           rw vf (stays-out d c (lower G c L) u (meet-r L (stays G d c (lower G c L)) u x) y (λ i. ne (i ∙ sym ec)))
 
-  taken-closed : (d : ℕ) (t L : Set) → Taken d t L → ((c : ℕ) → d ≤ c → c < k → lone G c L ≡ true → t c ≡ true) → UnitClosed d L
+  taken-closed : (d : ℕ) (t L : Set) → Taken d t L → ((c : ℕ) → d ≤ c → c < k → lone G c L ≡ true → t c ≡ true)
+      → UnitClosed d L
   taken-closed d t L z f c v a b s u x y ne = z c v u (f c a b (sole-lone G c v L s)) (s .at) x y ne
 
   -- what a step leaves open is one class less
-  fewer : (d : ℕ) (t L : Set) (f c : ℕ) → c < k → t c ≡ false → count k (λ e. not (t e)) ≤ suc f → count k (λ e. not ((t ∪ just c) e)) ≤ f
+  fewer : (d : ℕ) (t L : Set) (f c : ℕ) → c < k → t c ≡ false → count k (λ e. not (t e)) ≤ suc f
+      → count k (λ e. not ((t ∪ just c) e)) ≤ f
   unfolding _∪_ just
   fewer d t L f c l h m =
-      let r = count-less k (λ e. not (t e || eqb e c)) (λ e. not (t e)) (λ i x y. less (t i) _ y) c l (rw (eq-eqb c c refl) (gone (t c))) (not-in h) in
+      let r = count-less k (λ e. not (t e || eqb e c)) (λ e. not (t e)) (λ i x y. less (t i) _ y) c l
+      (rw (eq-eqb c c refl) (gone (t c))) (not-in h) in
       omega arith
     where
       less : (a b : Bool) → not (a || b) ≡ true → not a ≡ true
@@ -108,7 +118,8 @@ module _ (G : Graph) where
       gone true = refl
       gone false = refl
 
-  steps-closed : (f d : ℕ) (t L : Set) → count k (λ e. not (t e)) ≤ f → Taken d t L → isOpen G d (steps G f d t L) ≡ true → UnitClosed d (steps G f d t L)
+  steps-closed : (f d : ℕ) (t L : Set) → count k (λ e. not (t e)) ≤ f → Taken d t L
+      → isOpen G d (steps G f d t L) ≡ true → UnitClosed d (steps G f d t L)
   unfolding steps
   steps-closed zero d t L m z = λ o. taken-closed d t L z (λ c a b l. bool (t c) (λ e. e)
       (λ e. absurd (let r = count-pos k (λ e. not (t e)) c b (not-in e) in omega arith)))
@@ -116,11 +127,13 @@ module _ (G : Graph) where
       (λ o. case (λ X. isOpen G d X ≡ true → UnitClosed d X) (any k (due G d t L)) _ _
       (λ a. let q = due-is d t L _ (first-is k (due G d t L) a) in
       steps-closed f d _ _ (fewer d t L f _ (first-lt k (due G d t L) a) (q .2) m) (step-taken d _ t L (q .1) z))
-      (λ e _. taken-closed d t L z (λ c a b l. bool (t c) (λ x. x) (λ x. absurd (any-no k (due G d t L) e c b (due-in d t L c a l x))))))
+      (λ e _. taken-closed d t L z (λ c a b l. bool (t c) (λ x. x)
+      (λ x. absurd (any-no k (due G d t L) e c b (due-in d t L c a l x))))))
       (λ e o. clash (isOpen G d L) o e)
 
   -- a set where no class with one live vertex strikes a vertex is unit-closed
-  pub settled-closed : (d : ℕ) (L : Set) → ((c : ℕ) → d ≤ c → c < k → lone G c L ≡ true → L ⊆ strike G d c L) → UnitClosed d L
+  pub settled-closed : (d : ℕ) (L : Set) → ((c : ℕ) → d ≤ c → c < k → lone G c L ≡ true → L ⊆ strike G d c L)
+      → UnitClosed d L
   unfolding strike
   settled-closed d L f c v a b s u h l ne =
       let o = sole-lone G c v L s in

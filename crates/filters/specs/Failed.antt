@@ -18,7 +18,7 @@ module _ (G : Graph) where
   unfoldable pub alone : ℕ → Set → Set
   alone a L = L ∩ (λ u. not (eqb (cls u) (cls a)) || eqb u a)
 
-  -- "a trial makes the vertex alone in its class and runs unit steps on a copy": it is refuted when a class is empty
+  -- "A trial makes the vertex alone in its class and runs unit steps on a copy": it is refuted when a class is empty
   unfoldable pub refuted : ℕ → ℕ → Set → Bool
   refuted d a L = not (isOpen G d (unit G d (alone a L)))
 
@@ -39,12 +39,13 @@ module _ (G : Graph) where
   round zero d x = x
   round (suc m) d x = elim (ltb m d) [ true ↦ round m d x | false ↦ tryClass d m (round m d x) ]
 
-  -- "rounds end when one strikes nothing or a class is empty"; each other round strikes a vertex, so that n + 1 rounds are enough
+  -- "Rounds end when one strikes nothing or a class is empty"; each other round strikes a vertex, so that n + 1 rounds
+  -- are enough
   unfoldable pub rounds : ℕ → ℕ → Set → Set
   rounds zero d L = L
   rounds (suc f) d L = elim (round k d (false, L) .0 && isOpen G d (round k d (false, L) .1))
       [ true ↦ rounds f d (round k d (false, L) .1) | false ↦ round k d (false, L) .1 ]
 
-  -- unit steps, "then rounds", unless the unit steps leave a class empty
+  -- unit steps, "Then rounds", unless the unit steps leave a class empty
   unfoldable pub failed : Filter
   failed d L = elim (isOpen G d (unit G d L)) [ true ↦ rounds (suc n) d (unit G d L) | false ↦ unit G d L ]

@@ -11,8 +11,9 @@ use Rattle.rows.specs.Rows.{setAt, rowAt, Outside}
 unfoldable pub beside : List ℕ → ℕ → Set → ℕ → ℕ → Set
 beside p w S graph m u = any m (λ v. S v && rowAt p w graph v u)
 
--- the class with its mask at m has struck: of the own row is left what row 2 spares, and what is beside a live vertex of the class
-pub record Struck (w m graph n : ℕ) (p p′ : List ℕ) : Type 0 where
+-- the class with its mask at m has struck: of the own row is left what row 2 spares, and what is beside a live vertex
+-- of the class
+pub record StruckBy (w m graph n : ℕ) (p p′ : List ℕ) : Type 0 where
   pub own : setAt p′ w 0 ≡ setAt p w 0 ∩ (setAt p w (w + w) ∪ beside p w (setAt p w 0 ∩ setAt p w m) graph n)
   pub rest : Outside 0 (w + w + w) p p′
 

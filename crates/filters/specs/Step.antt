@@ -7,7 +7,8 @@ use Rattle.sets.specs.Below.{count}
 use Rattle.sets.specs.Sets.{Set, _⊆_, _∩_, _∪_}
 use Rattle.rows.specs.Rows.{setAt, rowAt, Outside}
 use Rattle.cliques.specs.Graph.{Graph, At, some, lone, two, isOpen}
-use Rattle.cliques.specs.Words.{Node}
+use Rattle.cliques.specs.Words.{ownRow, Node}
+use Rattle.cliques.specs.declared.Place.{Place}
 use Rattle.filters.specs.Promise.{Filter}
 use Rattle.filters.specs.Unit.{strike, unit}
 use Rattle.filters.specs.Failed.{refuted}
@@ -19,15 +20,17 @@ pub record OnTheWay (G : Graph) (F : Filter) (d : ℕ) (L₀ L : Set) : Type 0 w
   pub strikes : L ⊆ L₀
   pub keeps : isOpen G d (F d L₀) ≡ true → F d L₀ ⊆ L
 
--- strikes of F were made at a node, from the part p to p′. Shut: F leaves a remaining class empty. Open: the own row is on the way, and b says
--- whether it has lost a vertex; where it has not, Q holds of it
-pub record Stepped (F : Graph → Filter) (Q : Graph → Set → Type 0) (s d w masks graph n k : ℕ) (p p′ : List ℕ) (r : Step) : Type 0 where
+-- strikes of F were made at a node, from the part p to p′. Shut: F leaves a remaining class empty. Open: the own row is
+-- on the way, and b says whether it has lost a vertex; where it has not, Q holds of it
+pub record Stepped (F : Graph → Filter) (Q : Graph → Set → Type 0) (s d : ℕ) (place : Place) (p p′ : List ℕ)
+    (r : Step) : Type 0 where
   pub rest : Outside 0 s p p′
-  pub shut : r ≡ Shut → (G : Graph) → Node G d w masks graph n k p → isOpen G d (F G d (setAt p w 0)) ≡ false
-  pub way : (b : Bool) → r ≡ Open b → (G : Graph) → Node G d w masks graph n k p → OnTheWay G (F G) d (setAt p w 0) (setAt p′ w 0)
-  pub fewer : r ≡ Open true → count (64 * w) (setAt p′ w 0) < count (64 * w) (setAt p w 0)
-  pub same : r ≡ Open false → setAt p′ w 0 ≡ setAt p w 0
-  pub settled : r ≡ Open false → (G : Graph) → Node G d w masks graph n k p → Q G (setAt p w 0)
+  pub shut : r ≡ Shut → (G : Graph) → Node G d place p → isOpen G d (F G d (ownRow place p)) ≡ false
+  pub way : (b : Bool) → r ≡ Open b → (G : Graph) → Node G d place p
+      → OnTheWay G (F G) d (ownRow place p) (ownRow place p′)
+  pub fewer : r ≡ Open true → count (64 * place .w) (ownRow place p′) < count (64 * place .w) (ownRow place p)
+  pub same : r ≡ Open false → ownRow place p′ ≡ ownRow place p
+  pub settled : r ≡ Open false → (G : Graph) → Node G d place p → Q G (ownRow place p)
 
 -- of the own row was left what is beside v or in row m, and r says whether a vertex was struck
 pub record StruckOthers (w m graph v : ℕ) (p p′ : List ℕ) (r : Bool) : Type 0 where
@@ -51,7 +54,8 @@ pub record OneOfTwo (w masks c a : ℕ) (p : List ℕ) : Type 0 where
   pub both : count (64 * w) (setAt p w 0 ∩ rowAt p w masks c) ≡ 2
   pub live : (setAt p w 0 ∩ rowAt p w masks c) a ≡ true
 
--- a trial of vertex a is not refuted; of class c, where it has two live vertices, neither is; nor is one of any remaining class
+-- a trial of vertex a is not refuted; of class c, where it has two live vertices, neither is; nor is one of any
+-- remaining class
 abbrev pub Stands : Graph → ℕ → ℕ → Set → Type 0
 Stands G d a L = refuted G d a L ≡ false
 

@@ -14,11 +14,12 @@ module _ (G : Graph) where
   unfoldable pub near : Set → ℕ → ℕ → Bool
   near L u e = any n (λ v. L v && (eqb (cls v) e && adj u v))
 
-  -- "strike every vertex that has no live neighbour in some earlier remaining class": u is not of class m, or has one in each
+  -- "strike every vertex that has no live neighbour in some earlier remaining class": u is not of class m, or has one
+  -- in each
   unfoldable pub reached : ℕ → ℕ → Set → Set
   reached d m L u = not (eqb (cls u) m) || all m (λ e. ltb e d || near L u e)
 
-  -- "for each remaining class in rising order": the classes below m are swept
+  -- "for each remaining class .. in rising order": the classes below m are swept
   unfoldable pub sweepTo : ℕ → Filter
   sweepTo zero d L = L
   sweepTo (suc m) d L = sweepTo m d L ∩ reached d m (sweepTo m d L)

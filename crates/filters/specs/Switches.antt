@@ -1,4 +1,5 @@
--- The filters of a filter number: "filter number 0 to 7: 1 pre-filter, 2 colour sweep, 4 unit and failed vertices, added up".
+-- The filters of a filter number: "Filter number 0 to 7: 1 pre-filter, 2 colour sweep, 4 unit and failed vertices,
+-- added up".
 use mathlib.Core.Path.{_≡_}
 use mathlib.Core.Bool.{Bool, true, false}
 use Prim.Native.Nat.{ℕ, _/_, _%_}

@@ -21,7 +21,7 @@ module _ (G : Graph) where
   unfoldable pub due : ℕ → Set → Set → Set
   due d t L c = leb d c && (lone G c L && not (t c))
 
-  -- "repeat until none is left or a class is empty"; a step takes one more class, so that k steps are enough
+  -- "Repeat until none is left or a class is empty"; a step takes one more class, so that k steps are enough
   unfoldable pub steps : ℕ → ℕ → Set → Set → Set
   steps zero d t L = L
   steps (suc f) d t L = elim (isOpen G d L) [

@@ -1,44 +1,42 @@
-// The filters of a node, on one part of the work words that begins at the node's own row. A row is w words; the masks of the k classes stand
-// from `masks` on, the rows of the n vertices from `graph` on, and the classes from d on remain.
-// The contracts cite `Filtered` of specs/Filtered.antt: for every graph that the words hold, what a filter leaves is what its definition leaves.
-pub mod failed_rows;
+// The filters of a node, on one part of the work words that begins at the node's own row. A row is w words; the masks
+// of the k classes stand from `masks` on, the rows of the n vertices from `graph` on, and the classes from d on remain.
+// The contracts cite `Filtered` of specs/Filtered.antt: for every graph that the words hold, what a filter leaves is
+// what its definition leaves.
+mod failed_rows;
 mod pre_filter_rows;
 mod reach_rows;
-pub mod sweep_rows;
-pub mod unit_rows;
+mod sweep_rows;
+mod unit_rows;
 
 ghost use mathlib.Core.Path.{_≡_};
 ghost use Prim.Native.Nat.{_+_, _≤_};
 ghost use lib.ListN.{length};
-ghost use Rattle.rows.specs.Rows.{setAt};
 ghost use Rattle.cliques.specs.Graph.{Graph, isOpen};
-ghost use Rattle.cliques.specs.Words.{Room, Node};
+ghost use Rattle.cliques.specs.Words.{ownRow, Room, Node, fourRows};
 ghost use Rattle.filters.specs.Failed.{failed as failedVertices};
 ghost use Rattle.filters.specs.Filtered.{Filtered};
 ghost use Rattle.filters.specs.Switches.{switched, on, atNode};
+use cliques::Place;
 use failed_rows::failed;
 pub use pre_filter_rows::pre_filter;
 use sweep_rows::sweep;
 
-// How strikes of a filter came out: a remaining class is empty, or will be; or the filter goes on, and a vertex was struck or not.
-pub enum Step {
+// How strikes of a filter came out: a remaining class is empty, or will be; or the filter goes on, and a vertex was
+// struck or not.
+enum Step {
     Shut,
     Open { struck: bool },
 }
 
 // Whether no remaining class is empty.
-pub fn is_open(
-    part: &[u64],
-    w: usize,
-    masks: usize,
-    graph: usize,
-    n: usize,
-    k: usize,
-    d: usize,
-) -> bool
-    requires { ⌜ Room w w masks graph n k (length (now part)) × (d ≤ k) ⌝ }
-    ensures { λ r. ⌜ ((G : Graph) → Node G d w masks graph n k (now (part .entry)) → r ≡ isOpen G d (setAt (now (part .entry)) w 0)) ⌝ }
+pub fn is_open(part: &[u64], place: Place, d: usize) -> bool
+    requires { ⌜ Room (place .w) place (length (now part)) × (d ≤ place .k) ⌝ }
+    ensures { λ r. ⌜ ((G : Graph) → Node G d place (now (part .entry))
+        → r ≡ isOpen G d (ownRow place (now (part .entry)))) ⌝ }
 {
+    let w = place.w;
+    let masks = place.masks;
+    let k = place.k;
     let mut c = d;
     while c < k {
         let m = rows::row_at(masks, w, c, k);
@@ -51,44 +49,27 @@ pub fn is_open(
 }
 
 // Unit steps and failed vertices, where filter number `filters` has them: whether no remaining class is left empty.
-fn unit_filter(
-    part: &mut [u64],
-    w: usize,
-    masks: usize,
-    graph: usize,
-    n: usize,
-    k: usize,
-    d: usize,
-    filters: u32,
-) -> bool
-    requires { ⌜ Room (w + w + w + w) w masks graph n k (length (now part)) × (d ≤ k) ⌝ }
-    ensures { λ r. ⌜ Filtered (λ G. on (switched filters 4) (failedVertices G)) (w + w + w + w) d w masks graph n k (now (part .entry)) (now (part .exit)) r ⌝ }
+fn unit_filter(part: &mut [u64], place: Place, d: usize, filters: u32) -> bool
+    requires { ⌜ Room (fourRows place) place (length (now part)) × (d ≤ place .k) ⌝ }
+    ensures { λ r. ⌜ Filtered (λ G. on (switched filters 4) (failedVertices G)) (fourRows place) d place
+        (now (part .entry)) (now (part .exit)) r ⌝ }
 {
     if filters / 4 % 2 == 1 {
-        return failed(part, w, masks, graph, n, k, d);
+        return failed(part, place, d);
     }
-    is_open(part, w, masks, graph, n, k, d)
+    is_open(part, place, d)
 }
 
 // The filters of a node, as filter number `filters` has them switched: whether they leave no remaining class empty.
-pub fn filter(
-    part: &mut [u64],
-    w: usize,
-    masks: usize,
-    graph: usize,
-    n: usize,
-    k: usize,
-    d: usize,
-    filters: u32,
-) -> bool
-    requires { ⌜ Room (w + w + w + w) w masks graph n k (length (now part)) × (d ≤ k) ⌝ }
-    ensures { λ r. ⌜ Filtered (atNode filters) (w + w + w + w) d w masks graph n k (now (part .entry)) (now (part .exit)) r ⌝ }
+pub fn filter(part: &mut [u64], place: Place, d: usize, filters: u32) -> bool
+    requires { ⌜ Room (fourRows place) place (length (now part)) × (d ≤ place .k) ⌝ }
+    ensures { λ r. ⌜ Filtered (atNode filters) (fourRows place) d place (now (part .entry)) (now (part .exit)) r ⌝ }
 {
     if filters / 2 % 2 != 1 {
-        return unit_filter(part, w, masks, graph, n, k, d, filters);
+        return unit_filter(part, place, d, filters);
     }
-    if !sweep(part, w, masks, graph, n, k, d) {
+    if !sweep(part, place, d) {
         return false;
     }
-    unit_filter(part, w, masks, graph, n, k, d, filters)
+    unit_filter(part, place, d, filters)
 }

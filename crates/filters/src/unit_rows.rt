@@ -1,20 +1,22 @@
-// Unit steps. The lone vertex of a class strikes its non-neighbours; classes are visited in rising order, pass after pass, until one strikes nothing.
-// What is left is the same in any order of the strikes, so that no class taken has to be kept.
+// Unit steps. The lone vertex of a class strikes its non-neighbours; classes are visited in rising order, pass after
+// pass, until one strikes nothing. What is left is the same in any order of the strikes, so that no class taken has to
+// be kept.
 ghost use mathlib.Core.Path.{_≡_};
 ghost use mathlib.Core.Bool.{true};
 ghost use Prim.Native.Nat.{ℕ, _+_, _*_, _<_, _≤_};
 ghost use lib.ListN.{length};
 ghost use Rattle.sets.specs.Below.{count};
-ghost use Rattle.rows.specs.Rows.{setAt};
-ghost use Rattle.cliques.specs.Words.{Room};
+ghost use Rattle.cliques.specs.Words.{ownRow, Room, twoRows};
 ghost use Rattle.filters.specs.Filtered.{Filtered};
 ghost use Rattle.filters.specs.Step.{Stepped, StruckOthers, Calm, Rests};
 ghost use Rattle.filters.specs.Unit.{unit};
 use crate::Step;
+use cliques::Place;
 
 // Strikes from the own row whoever is neither a neighbour of v nor in row m: whether there was one.
 fn strike_others(part: &mut [u64], w: usize, m: usize, graph: usize, n: usize, v: usize) -> bool
-    requires { ⌜ (w + w ≤ m) × (m + w ≤ length (now part)) × (w + w ≤ graph) × (graph + n * w ≤ length (now part)) × (v < n) ⌝ }
+    requires { ⌜ (w + w ≤ m) × (m + w ≤ length (now part)) × (w + w ≤ graph) × (graph + n * w ≤ length (now part))
+        × (v < n) ⌝ }
     ensures { λ r. ⌜ StruckOthers w m graph v (now (part .entry)) (now (part .exit)) r ⌝ }
 {
     let g = rows::row_at(graph, w, v, n);
@@ -29,18 +31,16 @@ fn strike_others(part: &mut [u64], w: usize, m: usize, graph: usize, n: usize, v
 }
 
 // A visit to class c: where it has one live vertex, that strikes its non-neighbours in other classes.
-fn visit(
-    part: &mut [u64],
-    w: usize,
-    masks: usize,
-    graph: usize,
-    n: usize,
-    k: usize,
-    c: usize,
-) -> Step
-    requires { ⌜ Room (w + w) w masks graph n k (length (now part)) × (c < k) ⌝ }
-    ensures { λ r. ⌜ ((d : ℕ) → d ≤ c → Stepped unit (λ G. Calm G d c) (w + w) d w masks graph n k (now (part .entry)) (now (part .exit)) r) ⌝ }
+fn visit(part: &mut [u64], place: Place, c: usize) -> Step
+    requires { ⌜ Room (twoRows place) place (length (now part)) × (c < place .k) ⌝ }
+    ensures { λ r. ⌜ ((d : ℕ) → d ≤ c
+        → Stepped unit (λ G. Calm G d c) (twoRows place) d place (now (part .entry)) (now (part .exit)) r) ⌝ }
 {
+    let w = place.w;
+    let masks = place.masks;
+    let graph = place.graph;
+    let n = place.n;
+    let k = place.k;
     let m = rows::row_at(masks, w, c, k);
     let live = rows::size_common(part, w, 0, m);
     if live == 0 {
@@ -59,22 +59,15 @@ fn visit(
 }
 
 // A pass: each remaining class is visited once.
-fn pass(
-    part: &mut [u64],
-    w: usize,
-    masks: usize,
-    graph: usize,
-    n: usize,
-    k: usize,
-    d: usize,
-) -> Step
-    requires { ⌜ Room (w + w) w masks graph n k (length (now part)) × (d ≤ k) ⌝ }
-    ensures { λ r. ⌜ Stepped unit (λ G. Rests G d) (w + w) d w masks graph n k (now (part .entry)) (now (part .exit)) r ⌝ }
+fn pass(part: &mut [u64], place: Place, d: usize) -> Step
+    requires { ⌜ Room (twoRows place) place (length (now part)) × (d ≤ place .k) ⌝ }
+    ensures { λ r. ⌜ Stepped unit (λ G. Rests G d) (twoRows place) d place (now (part .entry)) (now (part .exit)) r ⌝ }
 {
+    let k = place.k;
     let mut struck = false;
     let mut c = d;
     while c < k {
-        let Step::Open { struck: here } = visit(part, w, masks, graph, n, k, c) else {
+        let Step::Open { struck: here } = visit(part, place, c) else {
             return Step::Shut;
         };
         struck = struck | here;
@@ -84,22 +77,15 @@ fn pass(
 }
 
 // Unit steps: whether they leave no remaining class empty.
-pub fn unit_steps(
-    part: &mut [u64],
-    w: usize,
-    masks: usize,
-    graph: usize,
-    n: usize,
-    k: usize,
-    d: usize,
-) -> bool
-    requires { ⌜ Room (w + w) w masks graph n k (length (now part)) × (d ≤ k) ⌝ }
-    ensures { λ r. ⌜ Filtered unit (w + w) d w masks graph n k (now (part .entry)) (now (part .exit)) r ⌝ }
-    ensures no_more { λ r. ⌜ (r ≡ true → count (64 * w) (setAt (now (part .exit)) w 0) ≤ count (64 * w) (setAt (now (part .entry)) w 0)) ⌝ }
+pub fn unit_steps(part: &mut [u64], place: Place, d: usize) -> bool
+    requires { ⌜ Room (twoRows place) place (length (now part)) × (d ≤ place .k) ⌝ }
+    ensures { λ r. ⌜ Filtered unit (twoRows place) d place (now (part .entry)) (now (part .exit)) r ⌝ }
+    ensures no_more { λ r. ⌜ (r ≡ true → count (64 * place .w) (ownRow place (now (part .exit)))
+        ≤ count (64 * place .w) (ownRow place (now (part .entry)))) ⌝ }
 {
     let mut go_on = true;
     while go_on {
-        let Step::Open { struck } = pass(part, w, masks, graph, n, k, d) else {
+        let Step::Open { struck } = pass(part, place, d) else {
             return false;
         };
         go_on = struck;

@@ -1,26 +1,26 @@
--- The graph of an accepted sheet: adjacency goes both ways and never inside a layer, and there are k layers.
-use mathlib.Core.Path.{_≡_, refl, sym, _∙_}
-use mathlib.Core.Bool.{Bool, true, false, not, _&&_}
+-- The graph of an accepted job: adjacency goes both ways and never inside a layer, and there are k layers.
+use mathlib.Core.Path.{_≡_, sym}
+use mathlib.Core.Bool.{true, not, _&&_}
 use mathlib.Core.List.{List}
 use Prim.Native.Nat.{ℕ, _<_}
 use lib.Dec.{eqb, ltb}
 use borrow.Author.Tests.{eq-eqb, ne-eqb, ltb-true, lt-ltb}
-use Rattle.sets.specs.Below.{all}
-use Rattle.sets.proofs.Tests.{clash, is-false, iff, and-l, and-r, and-in, not-out, not-in}
+use Rattle.sets.proofs.Tests.{clash, iff, and-l, and-r, and-in, not-out, not-in}
 use Rattle.sets.proofs.Below.{all-in, all-out}
 use Rattle.sheet.specs.Sheet.{kOf, nOf, qOf, linkPart, freqPart, rulePart, pairPart}
 use Rattle.sheet.specs.Refusal.{refusal}
 use Rattle.sheet.proofs.Accepted.{accepted}
+use Rattle.rules.specs.Job.{Job}
 use Rattle.rules.specs.Layers.{layerOf}
 use Rattle.rules.specs.Pairs.{fits, joins}
-use Rattle.rules.specs.Parts.{Parts}
 use Rattle.rules.proofs.Laws.{layer-in, parts-of}
-use Rattle.cliques.specs.Graph.{Graph, Layers}
+use Rattle.cliques.specs.Graph.{Layers}
 use Rattle.graph.specs.Graph.{adjacent, layer, graphOf}
 
 module _ (ls fs rs ps : List ℕ) (k n q : ℕ) where
   -- the parts of the test
-  pub adjacent-in : (u v : ℕ) → u < n → v < n → (layerOf ls k u ≡ layerOf ls k v → ⊥) → joins ls fs rs ps q (layerOf ls k u) (layerOf ls k v) u v ≡ true
+  pub adjacent-in : (u v : ℕ) → u < n → v < n → (layerOf ls k u ≡ layerOf ls k v → ⊥)
+      → joins ls fs rs ps q (layerOf ls k u) (layerOf ls k v) u v ≡ true
       → adjacent ls fs rs ps k n q u v ≡ true
   unfolding adjacent
   adjacent-in u v a b ne j = and-in (and-in (lt-ltb u n a) (lt-ltb v n b)) (and-in (not-in (ne-eqb _ _ ne)) j)
@@ -39,7 +39,8 @@ module _ (ls fs rs ps : List ℕ) (k n q : ℕ) where
       record {
         left = ltb-true u n (and-l (ltb u n) _ a);
         right = ltb-true v n (and-r (ltb u n) _ a);
-        apart = λ e. clash (eqb (layerOf ls k u) (layerOf ls k v)) (eq-eqb _ _ e) (not-out _ (and-l (not (eqb (layerOf ls k u) (layerOf ls k v))) _ b));
+        apart = λ e. clash (eqb (layerOf ls k u) (layerOf ls k v)) (eq-eqb _ _ e)
+            (not-out _ (and-l (not (eqb (layerOf ls k u) (layerOf ls k v))) _ b));
         allowed = and-r (not (eqb (layerOf ls k u) (layerOf ls k v))) _ b;
       }
 
@@ -56,10 +57,15 @@ module _ (ls fs rs ps : List ℕ) (k n q : ℕ) where
   pub adjacent-sym : (u v : ℕ) → adjacent ls fs rs ps k n q u v ≡ adjacent ls fs rs ps k n q v u
   adjacent-sym u v = iff _ _ (turned u v) (turned v u)
 
--- an accepted sheet's graph, whatever its classes
-pub layers-of : (s : List ℕ) → refusal s ≡ 0 → (cls : ℕ → ℕ) → Layers (graphOf s cls) (layer s)
-layers-of s e cls = record {
-  sy = adjacent-sym (linkPart s) (freqPart s) (rulePart s) (pairPart s) (kOf s) (nOf s) (qOf s);
-  apart = λ u v h. adjacent-out (linkPart s) (freqPart s) (rulePart s) (pairPart s) (kOf s) (nOf s) (qOf s) u v h .apart;
-  few = λ v l. layer-in (linkPart s) (kOf s) (nOf s) (parts-of s (accepted s e) .links) v l .0;
-}
+-- an accepted job's graph, whatever its classes
+module _ (job : Job) where
+  abbrev s : List ℕ
+  s = job .sheet
+
+  pub layers-of : refusal s ≡ 0 → (cls : ℕ → ℕ) → Layers (graphOf job cls) (layer job)
+  layers-of e cls = record {
+    sy = adjacent-sym (linkPart s) (freqPart s) (rulePart s) (pairPart s) (kOf s) (nOf s) (qOf s);
+    apart = λ u v h. adjacent-out (linkPart s) (freqPart s) (rulePart s) (pairPart s) (kOf s) (nOf s) (qOf s) u v
+        h .apart;
+    few = λ v l. layer-in (linkPart s) (kOf s) (nOf s) (parts-of s (accepted s e) .links) v l .0;
+  }

@@ -1,6 +1,7 @@
--- Demand 2: the k-cliques of the graph and the assignments that keep every rule match one to one, and the check says yes to exactly these.
+-- Demand 2: the k-cliques of the graph and the assignments that keep every rule match one to one, and the check says
+-- yes to exactly these.
 use mathlib.Core.Path.{_≡_, refl, sym, ap, ap₂, subst, _∙_}
-use mathlib.Core.Bool.{Bool, true, false, not, _&&_, _||_}
+use mathlib.Core.Bool.{Bool, true, false, _&&_}
 use mathlib.Core.List.{List}
 use Prim.Native.Nat.{ℕ, zero, suc, _+_, _-_, _≤_, _<_}
 use native.Mathlib.Omega.{arith}
@@ -9,35 +10,41 @@ use lib.ListN.{length}
 use borrow.Author.Tests.{eqb-true, eq-eqb, ne-eqb, lt-ltb, ltb-true, leb-true, le-leb}
 use Rattle.sets.specs.Below.{all, any, first}
 use Rattle.sets.specs.Sets.{whole}
-use Rattle.sets.proofs.Tests.{clash, bool, is-false, and-l, and-r, and-in}
+use Rattle.sets.proofs.Tests.{bool, is-false, and-l, and-r, and-in}
 use Rattle.sets.proofs.Below.{all-in, all-out, all-same, any-in, first-lt, first-is, first-found}
 use Rattle.sheet_rows.specs.Rows.{linkFirst, linkCount, freq, ruleA, ruleB}
-use Rattle.sheet.specs.Sheet.{kOf, nOf, qOf, tOf, linkPart, freqPart, rulePart, pairPart, mostKHz, freqOk, linkFreqsOk, freqsOk, linksOk, rulesOk, pairsOk}
+use Rattle.sheet.specs.Sheet.{kOf, nOf, qOf, tOf, linkPart, freqPart, rulePart, pairPart, mostKHz, freqOk, linkFreqsOk}
+use Rattle.sheet.specs.Sheet.{freqsOk, linksOk, rulesOk, pairsOk}
 use Rattle.sheet.specs.Refusal.{formOk, linkCountOk, countsOk, offsetsOk, passing, unless, sectionCause, refusal}
 use Rattle.sheet.proofs.Accepted.{accepted}
+use Rattle.rules.specs.Job.{Job}
 use Rattle.rules.specs.Layers.{layerOf, InLink}
-use Rattle.rules.specs.Pairs.{allows, fits, joins}
+use Rattle.rules.specs.Pairs.{fits, joins}
 use Rattle.rules.specs.Parts.{Parts}
-use Rattle.rules.specs.Plans.{placeOf, hasFreq, vertexOf, inLists, ruleKept, keeps, cellsOf, keepsSheet, yesNo, checked}
-use Rattle.rules.proofs.Laws.{layer-of, layer-in, in-link-lt, has-freq-lt, vertex-in, listed-at, rule-links, parts-of}
-use Rattle.cliques.specs.Graph.{Graph, Clique, KClique, layered}
+use Rattle.rules.specs.Plans.{placeOf, hasFreq, vertexOf, inLists, ruleKept, keeps, cellsOf, keepsJob, yesNo, checked}
+use Rattle.rules.proofs.Laws.{layer-of, layer-in, in-link-lt, vertex-in, listed-at, rule-links, parts-of}
+use Rattle.cliques.specs.Graph.{Graph, Clique}
 use Rattle.cliques.specs.Listing.{byLayer}
 use Rattle.cliques.proofs.Listing.{clique-any, by-layer-clique, by-layer-at}
 use Rattle.graph.specs.Graph.{adjacent, layer, graphOf}
-use Rattle.graph.specs.Matches.{KeepsEveryRule, IsClique, assignment, vertices, Matches, YesToThese, Demand2}
+use Rattle.graph.specs.Matches.{KeepsEveryRule, IsClique, vertices, Matches, Demand2}
 use Rattle.graph.proofs.Graph.{adjacent-in, adjacent-out, layers-of}
 
 module _ {ls fs rs ps : List ℕ} {k n q t : ℕ} (P : Parts ls fs rs ps k n q t) where
   -- the frequencies of a link rise
-  next-rises : (l i : ℕ) → l < k → suc i < linkCount ls l → freq fs (linkFirst ls l + i) < freq fs (linkFirst ls l + suc i)
+  next-rises : (l i : ℕ) → l < k → suc i < linkCount ls l
+      → freq fs (linkFirst ls l + i) < freq fs (linkFirst ls l + suc i)
   unfolding freqsOk linkFreqsOk freqOk
   next-rises l i h b =
-      let g = all-out (linkCount ls l) (freqOk fs (linkFirst ls l)) (all-out k (linkFreqsOk ls fs) (P .freqs) l h) (suc i) b in
+      let g = all-out (linkCount ls l) (freqOk fs (linkFirst ls l)) (all-out k (linkFreqsOk ls fs) (P .freqs) l h)
+      (suc i) b in
       let r = and-r (ltb 0 (freq fs (linkFirst ls l + suc i)) && leb (freq fs (linkFirst ls l + suc i)) mostKHz) _ g in
       let e : linkFirst ls l + suc i - 1 ≡ linkFirst ls l + i = omega arith in
-      ltb-true (freq fs (linkFirst ls l + i)) (freq fs (linkFirst ls l + suc i)) (rw (e, ne-eqb (suc i) 0 (λ z. omega arith)) at r)
+      ltb-true (freq fs (linkFirst ls l + i)) (freq fs (linkFirst ls l + suc i))
+      (rw (e, ne-eqb (suc i) 0 (λ z. omega arith)) at r)
 
-  rises : (l i d : ℕ) → l < k → i + suc d < linkCount ls l → freq fs (linkFirst ls l + i) < freq fs (linkFirst ls l + (i + suc d))
+  rises : (l i d : ℕ) → l < k → i + suc d < linkCount ls l
+      → freq fs (linkFirst ls l + i) < freq fs (linkFirst ls l + (i + suc d))
   rises l i zero h b = let e : i + 1 ≡ suc i = omega arith in rw e (next-rises l i h (omega arith))
   rises l i (suc d) h b =
       let r = rises l i d h (omega arith) in
@@ -45,7 +52,8 @@ module _ {ls fs rs ps : List ℕ} {k n q t : ℕ} (P : Parts ls fs rs ps k n q t
       let e : i + suc (suc d) ≡ suc (i + suc d) = omega arith in
       rw e (omega arith)
 
-  place-at : (l i : ℕ) → l < k → i < linkCount ls l → placeOf fs (linkFirst ls l) (linkCount ls l) (freq fs (linkFirst ls l + i)) ≡ i
+  place-at : (l i : ℕ) → l < k → i < linkCount ls l → placeOf fs (linkFirst ls l) (linkCount ls l)
+      (freq fs (linkFirst ls l + i)) ≡ i
   unfolding placeOf
   place-at l i h b = first-found (linkCount ls l) i here b (is-false (any i here) (λ u.
       let j = first i here in
@@ -60,7 +68,8 @@ module _ {ls fs rs ps : List ℕ} {k n q t : ℕ} (P : Parts ls fs rs ps k n q t
       here m = eqb (freq fs (linkFirst ls l + m)) (freq fs (linkFirst ls l + i))
 
   -- the vertex of a vertex's frequency is that vertex
-  vertex-back : (l v : ℕ) → l < k → InLink ls l v → (vertexOf ls fs l (freq fs v) ≡ v) × (hasFreq ls fs l (freq fs v) ≡ true)
+  vertex-back : (l v : ℕ) → l < k → InLink ls l v → (vertexOf ls fs l (freq fs v) ≡ v)
+      × (hasFreq ls fs l (freq fs v) ≡ true)
   unfolding vertexOf hasFreq
   vertex-back l v h i =
       let d = v - linkFirst ls l in
@@ -81,7 +90,8 @@ module _ {ls fs rs ps : List ℕ} {k n q t : ℕ} (P : Parts ls fs rs ps k n q t
   -- a clique listed by layer: its assignment keeps every rule, and its vertices are those of the assignment
   module _ (c : ℕ → ℕ) (C : Clique G 0 (whole n) c) where
     in-link : (l : ℕ) → l < k → InLink ls l (c l)
-    in-link l h = let a = C .at l (omega arith) h in let i = layer-in ls k n (P .links) (c l) (a .lt) .1 in rw (a .cl) at i
+    in-link l h = let a = C .at l (omega arith) h in let i = layer-in ls k n (P .links) (c l) (a .lt) .1 in
+        rw (a .cl) at i
 
     pub there-back : (l : ℕ) → l < k → vertexOf ls fs l (freq fs (c l)) ≡ c l
     there-back l h = vertex-back l (c l) h (in-link l h) .0
@@ -94,18 +104,23 @@ module _ {ls fs rs ps : List ℕ} {k n q t : ℕ} (P : Parts ls fs rs ps k n q t
         let b = ruleB rs j in
         let x : a < k = omega arith in
         let y : b < k = o .1 in
-        let g = adjacent-out ls fs rs ps k n q (c a) (c b) (C .joined a b (omega arith) x (omega arith) y (λ e. omega arith)) .allowed in
-        let r : joins ls fs rs ps q a b (c a) (c b) ≡ true = rw (C .at a (omega arith) x .cl, C .at b (omega arith) y .cl) at g in
+        let g = adjacent-out ls fs rs ps k n q (c a) (c b)
+        (C .joined a b (omega arith) x (omega arith) y (λ e. omega arith)) .allowed in
+        let r : joins ls fs rs ps q a b (c a) (c b) ≡ true =
+        rw (C .at a (omega arith) x .cl, C .at b (omega arith) y .cl) at g in
         let s : fits ls fs rs ps a b (c a) (c b) j ≡ true =
-        and-l (fits ls fs rs ps a b (c a) (c b) j) (fits ls fs rs ps b a (c b) (c a) j) (all-out q (λ m. fits ls fs rs ps a b (c a) (c b) m && fits ls fs rs ps b a (c b) (c a) m) r j h)
+        and-l (fits ls fs rs ps a b (c a) (c b) j) (fits ls fs rs ps b a (c b) (c a) j)
+        (all-out q (λ m. fits ls fs rs ps a b (c a) (c b) m && fits ls fs rs ps b a (c b) (c a) m) r j h)
         in
         rw (there-back a x, there-back b y) (rw (eq-eqb a a refl, eq-eqb b b refl) at s)
 
     pub clique-keeps : keeps ls fs rs ps k q (λ l. freq fs (c l)) ≡ true
     unfolding keeps inLists
-    clique-keeps = and-in (all-in k _ (λ l h. vertex-back l (c l) h (in-link l h) .1)) (all-in q (ruleKept ls fs rs ps (λ l. freq fs (c l))) clique-rule)
+    clique-keeps = and-in (all-in k _ (λ l h. vertex-back l (c l) h (in-link l h) .1))
+        (all-in q (ruleKept ls fs rs ps (λ l. freq fs (c l))) clique-rule)
 
-  -- an assignment that keeps every rule: its vertices are a clique listed by layer, and its frequencies are those of the vertices
+  -- an assignment that keeps every rule: its vertices are a clique listed by layer, and its frequencies are those of
+  -- the vertices
   module _ (f : ℕ → ℕ) (K : keeps ls fs rs ps k q f ≡ true) where
     abbrev vs : ℕ → ℕ
     vs l = vertexOf ls fs l (f l)
@@ -140,7 +155,8 @@ module _ {ls fs rs ps : List ℕ} {k n q t : ℕ} (P : Parts ls fs rs ps k n q t
     unfolding joins whole
     keeps-clique = record {
       at = λ l a h. record { lt = kept-lt l h; live = lt-ltb (vs l) n (kept-lt l h); cl = kept-layer l h };
-      joined = λ i j a h b g ne. adjacent-in ls fs rs ps k n q (vs i) (vs j) (kept-lt i h) (kept-lt j g) (λ e. ne (sym (kept-layer i h) ∙ e ∙ kept-layer j g))
+      joined = λ i j a h b g ne. adjacent-in ls fs rs ps k n q (vs i) (vs j) (kept-lt i h) (kept-lt j g)
+          (λ e. ne (sym (kept-layer i h) ∙ e ∙ kept-layer j g))
           (rw (kept-layer i h, kept-layer j g) (all-in q _ (λ r l. and-in (kept-fits i j r l) (kept-fits j i r l))));
     }
 
@@ -151,43 +167,56 @@ module _ {ls fs rs ps : List ℕ} {k n q t : ℕ} (P : Parts ls fs rs ps k n q t
       (all-same k _ _ (λ l i. ap (hasFreq ls fs l) (h l i)))
       (all-same q _ _ (λ j i. let o = rule-links P j i in rw (h (ruleA rs j) (omega arith), h (ruleB rs j) (o .1))))
 
-module _ (s : List ℕ) (ok : refusal s ≡ 0) where
+module _ (job : Job) (ok : refusal (job .sheet) ≡ 0) where
+  abbrev s : List ℕ
+  s = job .sheet
+
   P : Parts (linkPart s) (freqPart s) (rulePart s) (pairPart s) (kOf s) (nOf s) (qOf s) (tOf s)
   P = parts-of s (accepted s ok)
 
   -- the vertices of a rule-keeping assignment, listed by layer
-  pub vertices-clique : (f : ℕ → ℕ) → KeepsEveryRule s f → Clique (graphOf s (layer s)) 0 (whole (nOf s)) (vertices s f)
+  pub vertices-clique : (f : ℕ → ℕ) → KeepsEveryRule job f
+      → Clique (graphOf job (layer job)) 0 (whole (nOf s)) (vertices job f)
+  unfolding keepsJob
   vertices-clique f K = keeps-clique P f K
 
-  any-order : (c : ℕ → ℕ) → Clique (graphOf s (layer s)) 0 (whole (nOf s)) c → IsClique s c
-  any-order c p = clique-any (graphOf s (layer s)) (whole (nOf s)) c p
+  any-order : (c : ℕ → ℕ) → Clique (graphOf job (layer job)) 0 (whole (nOf s)) c → IsClique job c
+  any-order c p = clique-any (graphOf job (layer job)) (whole (nOf s)) c p
 
   -- the vertices of a clique's assignment are the clique's
-  pub vertices-same : (c : ℕ → ℕ) → Clique (graphOf s (layer s)) 0 (whole (nOf s)) c → (l : ℕ) → l < kOf s → vertices s (λ l. freq (freqPart s) (c l)) l ≡ c l
+  pub vertices-same : (c : ℕ → ℕ) → Clique (graphOf job (layer job)) 0 (whole (nOf s)) c → (l : ℕ) → l < kOf s
+      → vertices job (λ l. freq (freqPart s) (c l)) l ≡ c l
   vertices-same c p l h = there-back P c p l h
 
-  pub keeps-first-k : (f g : ℕ → ℕ) → ((l : ℕ) → l < kOf s → f l ≡ g l) → KeepsEveryRule s f → KeepsEveryRule s g
+  pub keeps-first-k : (f g : ℕ → ℕ) → ((l : ℕ) → l < kOf s → f l ≡ g l) → KeepsEveryRule job f → KeepsEveryRule job g
+  unfolding keepsJob
   keeps-first-k f g h K = sym (keeps-same P f g h) ∙ K
 
-  pub matches : Matches s
+  pub matches : Matches job
+  unfolding keepsJob
   matches = record {
     there = λ c p. clique-keeps P (by c) (listed c p);
-    back = λ f K. any-order (vertices s f) (vertices-clique f K);
+    back = λ f K. any-order (vertices job f) (vertices-clique f K);
     there-back = λ c p j l.
-        let m = layers-of s ok (layer s) .few (c j) (p .lt j l) in
-        there-back P (by c) (listed c p) (layer s (c j)) m ∙ by-layer-at (graphOf s (layer s)) (layer s) (layers-of s ok (layer s)) (whole (nOf s)) c p j l;
+        let m = layers-of job ok (layer job) .few (c j) (p .lt j l) in
+        there-back P (by c) (listed c p) (layer job (c j)) m
+        ∙ by-layer-at (graphOf job (layer job)) (layer job) (layers-of job ok (layer job)) (whole (nOf s)) c p j l;
     back-there = λ f K l h.
-        let p = any-order (vertices s f) (vertices-clique f K) in
-        let e = by-layer-at (graphOf s (layer s)) (layer s) (layers-of s ok (layer s)) (whole (nOf s)) (vertices s f) p l h in
+        let p = any-order (vertices job f) (vertices-clique f K) in
+        let e = by-layer-at (graphOf job (layer job)) (layer job) (layers-of job ok (layer job)) (whole (nOf s))
+        (vertices job f) p l h in
         let q = vertices-clique f K .at l (omega arith) h .cl in
-        ap (freq (freqPart s)) (subst (λ m. byLayer (kOf s) (layer s) (vertices s f) m ≡ vertices s f l) q e) ∙ back-there P f K l h;
+        ap (freq (freqPart s)) (subst (λ m. byLayer (kOf s) (layer job) (vertices job f) m ≡ vertices job f l) q e)
+        ∙ back-there P f K l h;
   }
     where
       by : (ℕ → ℕ) → ℕ → ℕ
-      by c = byLayer (kOf s) (layer s) c
+      by c = byLayer (kOf s) (layer job) c
 
-      listed : (c : ℕ → ℕ) → IsClique s c → Clique (graphOf s (layer s)) 0 (whole (nOf s)) (byLayer (kOf s) (layer s) c)
-      listed c p = by-layer-clique (graphOf s (layer s)) (layer s) (layers-of s ok (layer s)) (whole (nOf s)) c p
+      listed : (c : ℕ → ℕ) → IsClique job c → Clique (graphOf job (layer job)) 0 (whole (nOf s))
+          (byLayer (kOf s) (layer job) c)
+      listed c p = by-layer-clique (graphOf job (layer job)) (layer job) (layers-of job ok (layer job)) (whole (nOf s))
+          c p
 
 -- the check
 
@@ -210,26 +239,34 @@ refusal-small s =
     (passing-small (offsetsOk s) 4 _ (omega arith)
     (passing-small (linksOk (linkPart s) (kOf s) (nOf s)) 5 _ (omega arith)
     (passing-small (freqsOk (linkPart s) (freqPart s) (kOf s)) 6 _ (omega arith)
-    (passing-small (rulesOk (rulePart s) (kOf s) (qOf s) (tOf s)) 7 _ (omega arith) (unless-small (pairsOk (linkPart s) (rulePart s) (pairPart s) (qOf s)))))))))
+    (passing-small (rulesOk (rulePart s) (kOf s) (qOf s) (tOf s)) 7 _ (omega arith)
+    (unless-small (pairsOk (linkPart s) (rulePart s) (pairPart s) (qOf s)))))))))
 
 yes-no : (b : Bool) → yesNo b ≡ 100 → b ≡ true
 yes-no true h = refl
 yes-no false h = absurd (omega arith)
 
-check-only : (a b x : Bool) (r : ℕ) → r ≤ 8 → (passing a r λ _. passing b 10 λ _. yesNo x) ≡ 100 → (a ≡ true) × (b ≡ true) × (x ≡ true)
+check-only : (a b x : Bool) (r : ℕ) → r ≤ 8 → (passing a r λ _. passing b 10 λ _. yesNo x) ≡ 100
+    → (a ≡ true) × (b ≡ true) × (x ≡ true)
 check-only true true x r l h = (refl, refl, yes-no x h)
 check-only true false x r l h = absurd (omega arith)
 check-only false b x r l h = absurd (omega arith)
 
-says : (s cells : List ℕ) → checked s cells ≡ 100 → (refusal s ≡ 0) × (kOf s ≤ length cells) × KeepsEveryRule s (cellsOf cells)
-unfolding checked keepsSheet
-says s cells h =
-    let o = check-only (eqb (refusal s) 0) (leb (kOf s) (length cells)) (keepsSheet s cells) (refusal s) (refusal-small s) h in
-    (eqb-true (refusal s) 0 (o .0), leb-true (kOf s) (length cells) (o .1), o .2)
+module _ (job : Job) (cells : List ℕ) where
+  abbrev sheet : List ℕ
+  sheet = job .sheet
 
-told : (s cells : List ℕ) → refusal s ≡ 0 → kOf s ≤ length cells → KeepsEveryRule s (cellsOf cells) → checked s cells ≡ 100
-unfolding checked keepsSheet
-told s cells a b c = rw (a, le-leb (kOf s) (length cells) b, c) refl
+  says : checked job cells ≡ 100 → (refusal sheet ≡ 0) × (kOf sheet ≤ length cells) × KeepsEveryRule job (cellsOf cells)
+  unfolding checked
+  says h =
+      let a = eqb (refusal sheet) 0 in
+      let b = leb (kOf sheet) (length cells) in
+      let o = check-only a b (keepsJob job (cellsOf cells)) (refusal sheet) (refusal-small sheet) h in
+      (eqb-true (refusal sheet) 0 (o .0), leb-true (kOf sheet) (length cells) (o .1), o .2)
+
+  told : refusal sheet ≡ 0 → kOf sheet ≤ length cells → KeepsEveryRule job (cellsOf cells) → checked job cells ≡ 100
+  unfolding checked
+  told a b c = rw (a, le-leb (kOf sheet) (length cells) b, c) refl
 
 pub demand2 : Demand2
-demand2 = record { matches = matches; check = λ s cells. record { only = says s cells; all = told s cells } }
+demand2 = record { matches = matches; check = λ job cells. record { only = says job cells; all = told job cells } }

@@ -1,34 +1,27 @@
--- Laws of the two sides of a rule row: what it bars is what the pair test says, and what the strikes ask holds of an accepted sheet.
-use mathlib.Core.Path.{_≡_, refl, sym, ap, _∙_}
+-- Laws of the two sides of a rule row: what it bars is what the pair test says, and what the strikes ask holds of an
+-- accepted sheet.
+use mathlib.Core.Path.{_≡_, sym, ap, _∙_}
 use mathlib.Core.Bool.{Bool, true, false, not, _&&_}
 use mathlib.Core.List.{List}
 use Prim.Native.Nat.{ℕ, _+_, _-_, _*_, _≤_, _<_}
 use native.Mathlib.Omega.{arith}
 use lib.Dec.{eqb, ltb}
 use lib.ListN.{length}
-use borrow.Author.Tests.{eqb-true, ltb-true, eq-eqb}
+use borrow.Author.Tests.{eqb-true, ltb-true, eq-eqb, le-leb}
 use Rattle.sets.specs.Sets.{_∩_, _∖_}
-use Rattle.sets.proofs.Tests.{clash, bool, iff, and-l, and-r}
-use Rattle.sets.proofs.Below.{all-out, any-same}
-use Rattle.sheet_rows.specs.Rows.{linkFirst, linkCount, freq, ruleA, ruleB, ruleKind, ruleCount, ruleValue, pairFirst, pairSecond}
+use Rattle.sets.proofs.Tests.{clash, bool, and-l, and-r}
+use Rattle.sets.proofs.Below.{all-out}
+use Rattle.sheet_rows.specs.Rows.{linkFirst, linkCount, freq, ruleA, ruleB, ruleKind, ruleCount, ruleValue, pairFirst}
+use Rattle.sheet_rows.specs.Rows.{pairSecond}
 use Rattle.sheet.specs.Sheet.{listed, pairOk, rulePairsOk, pairsOk}
 use Rattle.sheet.proofs.Links.{link-in}
 use Rattle.sheet.proofs.Rules.{rule-in}
-use Rattle.rules.specs.Pairs.{distance, samePair, listsPair, agree, allows}
+use Rattle.rules.specs.Pairs.{distance, listsPair, agree, allows}
 use Rattle.rules.specs.Parts.{Parts}
 use Rattle.rules.proofs.Laws.{rule-links, agree-plain}
 use Rattle.graph.specs.declared.Side.{Side}
-use Rattle.graph.specs.Strikes.{stretch, sideOf, ownPlace, otherPlace, partner, partners, clashing, barred, SideFits}
+use Rattle.graph.specs.Strikes.{stretch, sideOf, otherPlace, partners, clashing, barred, SideFits}
 use Rattle.graph.proofs.Spans.{stretch-out}
-
-turned-and : (a b : Bool) → a && b ≡ b && a
-turned-and true true = refl
-turned-and true false = refl
-turned-and false true = refl
-turned-and false false = refl
-
-same-place : (v f y : ℕ) → f ≤ v → eqb v (f + y) ≡ eqb y (v - f)
-same-place v f y h = iff _ _ (λ e. let q = eqb-true v (f + y) e in eq-eqb y (v - f) (omega arith)) (λ e. let q = eqb-true y (v - f) e in eq-eqb v (f + y) (omega arith))
 
 distance-turned : (x y : ℕ) → distance x y ≡ distance y x
 unfolding distance
@@ -40,14 +33,15 @@ in-stretch a b v p q h = bool (stretch a b v) (λ e. let o = stretch-out a b v e
 
 -- the pairs of a rule, as the code goes through them and as the pair test says them
 
-lists-a : (ps : List ℕ) (first x base m v : ℕ) → first ≤ v → partners ps false first x base m v ≡ listsPair ps base m x (v - first)
-unfolding partners partner ownPlace otherPlace listsPair samePair
-lists-a ps first x base m v h = any-same m _ _ (λ i l. ap (λ b. eqb (pairFirst ps (base + i)) x && b) (same-place v first (pairSecond ps (base + i)) h))
+lists-a : (ps : List ℕ) (first x base m v : ℕ) → first ≤ v
+    → partners ps false first x base m v ≡ listsPair ps base m x (v - first)
+unfolding partners
+lists-a ps first x base m v h = rw (le-leb first v h)
 
-lists-b : (ps : List ℕ) (first x base m v : ℕ) → first ≤ v → partners ps true first x base m v ≡ listsPair ps base m (v - first) x
-unfolding partners partner ownPlace otherPlace listsPair samePair
-lists-b ps first x base m v h = any-same m _ _ (λ i l.
-    ap (λ b. eqb (pairSecond ps (base + i)) x && b) (same-place v first (pairFirst ps (base + i)) h) ∙ turned-and (eqb (pairSecond ps (base + i)) x) _)
+lists-b : (ps : List ℕ) (first x base m v : ℕ) → first ≤ v
+    → partners ps true first x base m v ≡ listsPair ps base m (v - first) x
+unfolding partners
+lists-b ps first x base m v h = rw (le-leb first v h)
 
 agree-three : (kind value d : ℕ) (l : Bool) → kind ≡ 3 → agree kind value d l ≡ l
 unfolding agree
@@ -56,19 +50,22 @@ agree-three kind value d l e = rw e
 -- what a rule bars, vertex by vertex
 module _ (fs ps : List ℕ) (s : Side) (u v : ℕ) where
   barred-three : eqb (s .kind) 3 ≡ true
-      → barred fs ps s u v ≡ stretch (s .first) (s .end) v && not (partners ps (s .turned) (s .first) (u - s .from) (s .value) (s .count) v)
+      → barred fs ps s u v ≡ stretch (s .first) (s .end) v
+      && not (partners ps (s .turned) (s .first) (u - s .from) (s .value) (s .count) v)
   unfolding barred _∖_
   barred-three e = rw e
 
   barred-other : eqb (s .kind) 3 ≡ false
-      → barred fs ps s u v ≡ stretch (s .first) (s .end) v && not (agree (s .kind) (s .value) (distance (freq fs u) (freq fs v)) false)
+      → barred fs ps s u v ≡ stretch (s .first) (s .end) v
+      && not (agree (s .kind) (s .value) (distance (freq fs u) (freq fs v)) false)
   unfolding barred _∩_ clashing
   barred-other e = rw e
 
 module _ (ls fs rs ps : List ℕ) (j u v : ℕ) where
   -- rule row j from its link a, u being of a, and from its link b, u being of b
   pub barred-a : barred fs ps (sideOf ls rs j false (ruleA rs j) (ruleB rs j)) u v
-      ≡ stretch (linkFirst ls (ruleB rs j)) (linkFirst ls (ruleB rs j) + linkCount ls (ruleB rs j)) v && not (allows ls fs rs ps j u v)
+      ≡ stretch (linkFirst ls (ruleB rs j)) (linkFirst ls (ruleB rs j) + linkCount ls (ruleB rs j)) v
+      && not (allows ls fs rs ps j u v)
   unfolding allows
   barred-a =
       let first = linkFirst ls (ruleB rs j) in
@@ -77,12 +74,14 @@ module _ (ls fs rs ps : List ℕ) (j u v : ℕ) where
       let s = sideOf ls rs j false (ruleA rs j) (ruleB rs j) in
       bool (eqb (ruleKind rs j) 3)
       (λ e. barred-three fs ps s u v e ∙ in-stretch first end v _ _ (λ l h.
-      ap not (lists-a ps first (u - linkFirst ls (ruleA rs j)) (ruleValue rs j) (ruleCount rs j) v l ∙ sym (agree-three (ruleKind rs j) (ruleValue rs j) d _ (eqb-true _ _ e)))))
+      ap not (lists-a ps first (u - linkFirst ls (ruleA rs j)) (ruleValue rs j) (ruleCount rs j) v l
+      ∙ sym (agree-three (ruleKind rs j) (ruleValue rs j) d _ (eqb-true _ _ e)))))
       (λ e. barred-other fs ps s u v e ∙ in-stretch first end v _ _ (λ l h.
       ap not (agree-plain (ruleKind rs j) (ruleValue rs j) d _ _ (λ q. clash (eqb (ruleKind rs j) 3) (eq-eqb _ _ q) e))))
 
   pub barred-b : barred fs ps (sideOf ls rs j true (ruleB rs j) (ruleA rs j)) u v
-      ≡ stretch (linkFirst ls (ruleA rs j)) (linkFirst ls (ruleA rs j) + linkCount ls (ruleA rs j)) v && not (allows ls fs rs ps j v u)
+      ≡ stretch (linkFirst ls (ruleA rs j)) (linkFirst ls (ruleA rs j) + linkCount ls (ruleA rs j)) v
+      && not (allows ls fs rs ps j v u)
   unfolding allows
   barred-b =
       let first = linkFirst ls (ruleA rs j) in
@@ -91,7 +90,8 @@ module _ (ls fs rs ps : List ℕ) (j u v : ℕ) where
       let s = sideOf ls rs j true (ruleB rs j) (ruleA rs j) in
       bool (eqb (ruleKind rs j) 3)
       (λ e. barred-three fs ps s u v e ∙ in-stretch first end v _ _ (λ l h.
-      ap not (lists-b ps first (u - linkFirst ls (ruleB rs j)) (ruleValue rs j) (ruleCount rs j) v l ∙ sym (agree-three (ruleKind rs j) (ruleValue rs j) d _ (eqb-true _ _ e)))))
+      ap not (lists-b ps first (u - linkFirst ls (ruleB rs j)) (ruleValue rs j) (ruleCount rs j) v l
+      ∙ sym (agree-three (ruleKind rs j) (ruleValue rs j) d _ (eqb-true _ _ e)))))
       (λ e. barred-other fs ps s u v e ∙ in-stretch first end v _ _ (λ l h.
       ap not (ap (λ (x : ℕ). agree (ruleKind rs j) (ruleValue rs j) x false) (distance-turned (freq fs u) (freq fs v))
       ∙ agree-plain (ruleKind rs j) (ruleValue rs j) d _ _ (λ q. clash (eqb (ruleKind rs j) 3) (eq-eqb _ _ q) e))))
@@ -103,7 +103,8 @@ module _ {ls fs rs ps : List ℕ} {k n q t : ℕ} (P : Parts ls fs rs ps k n q t
   listed-is h = rw h
 
   pair-places : ruleKind rs j ≡ 3 → (i : ℕ) → i < ruleCount rs j → (4 * (ruleValue rs j + i) + 4 ≤ length ps) ×
-      (pairFirst ps (ruleValue rs j + i) < linkCount ls (ruleA rs j)) × (pairSecond ps (ruleValue rs j + i) < linkCount ls (ruleB rs j))
+      (pairFirst ps (ruleValue rs j + i) < linkCount ls (ruleA rs j))
+      × (pairSecond ps (ruleValue rs j + i) < linkCount ls (ruleB rs j))
   unfolding pairsOk rulePairsOk pairOk
   pair-places e i l =
       let x = listed-is e in
@@ -111,9 +112,13 @@ module _ {ls fs rs ps : List ℕ} {k n q t : ℕ} (P : Parts ls fs rs ps k n q t
       let m = linkCount ls (ruleA rs j) in
       let o = linkCount ls (ruleB rs j) in
       let y = ruleValue rs j + i in
-      let g = all-out (listed rs j) (pairOk ps (ruleValue rs j) m o) (all-out q (rulePairsOk ls rs ps) (P .pairs) j b) i (omega arith) in
-      let z = and-l (ltb (pairFirst ps y) m && ltb (pairSecond ps y) o) _ g in
-      (omega (arith, P .pair-rows), ltb-true (pairFirst ps y) m (and-l (ltb (pairFirst ps y) m) _ z), ltb-true (pairSecond ps y) o (and-r (ltb (pairFirst ps y) m) _ z))
+      let g = all-out (listed rs j) (pairOk ps (ruleValue rs j) m o) (all-out q (rulePairsOk ls rs ps) (P .pairs) j b)
+      i (omega arith) in
+      let z = and-l (ltb (pairFirst ps y) m && ltb (pairSecond ps y) o) _ g in (
+        omega (arith, P .pair-rows),
+        ltb-true (pairFirst ps y) m (and-l (ltb (pairFirst ps y) m) _ z),
+        ltb-true (pairSecond ps y) o (and-r (ltb (pairFirst ps y) m) _ z),
+      )
 
   pub fits-a : SideFits fs ps n (sideOf ls rs j false (ruleA rs j) (ruleB rs j))
   unfolding otherPlace

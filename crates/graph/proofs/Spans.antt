@@ -125,23 +125,28 @@ put-none w to p = record { here = refl; rest = outside-none _ _ p }
 pub put-as : {S T : Set} {w to : ℕ} {p q : List ℕ} → S ≡ T → Put S w to p q → Put T w to p q
 put-as e P = record { here = P .here ∙ e; rest = P .rest }
 
-pub put-then : {S T : Set} {w to : ℕ} {p q r : List ℕ} (f : Set → Set) → Put S w to p q → Put (f (setAt q w to)) w to q r → f S ≡ T → Put T w to p r
+pub put-then : {S T : Set} {w to : ℕ} {p q r : List ℕ} (f : Set → Set) → Put S w to p q
+    → Put (f (setAt q w to)) w to q r → f S ≡ T → Put T w to p r
 put-then f P Q e = record { here = Q .here ∙ ap f (P .here) ∙ e; rest = outside-then (P .rest) (Q .rest) }
 
 -- loops over a stretch: nothing done yet, and one vertex more
 
 pub added-none : (w to a : ℕ) (p : List ℕ) → Put (setAt p w to ∪ stretch a a) w to p p
-added-none w to a p = put-as (sym (ap (λ (X : Set). setAt p w to ∪ X) (stretch-none a) ∙ join-none (setAt p w to))) (put-none w to p)
+added-none w to a p = put-as (sym (ap (λ (X : Set). setAt p w to ∪ X) (stretch-none a) ∙ join-none (setAt p w to)))
+    (put-none w to p)
 
-pub added-more : {w to : ℕ} {p q r : List ℕ} (a v : ℕ) → a ≤ v → Put (setAt p w to ∪ stretch a v) w to p q → Put (setAt q w to ∪ just v) w to q r
+pub added-more : {w to : ℕ} {p q r : List ℕ} (a v : ℕ) → a ≤ v → Put (setAt p w to ∪ stretch a v) w to p q
+    → Put (setAt q w to ∪ just v) w to q r
     → Put (setAt p w to ∪ stretch a (v + 1)) w to p r
 added-more {w} {to} {p} a v h P Q = put-then (λ S. S ∪ just v) P Q
     (join-assoc (setAt p w to) (stretch a v) (just v) ∙ ap (λ (X : Set). setAt p w to ∪ X) (sym (stretch-more a v h)))
 
 pub taken-none : (w to a : ℕ) (p : List ℕ) → Put (setAt p w to ∖ stretch a a) w to p p
-taken-none w to a p = put-as (sym (ap (λ (X : Set). setAt p w to ∖ X) (stretch-none a) ∙ cut-none (setAt p w to))) (put-none w to p)
+taken-none w to a p = put-as (sym (ap (λ (X : Set). setAt p w to ∖ X) (stretch-none a) ∙ cut-none (setAt p w to)))
+    (put-none w to p)
 
-pub taken-more : {w to : ℕ} {p q r : List ℕ} (a v : ℕ) → a ≤ v → Put (setAt p w to ∖ stretch a v) w to p q → Put (setAt q w to ∖ just v) w to q r
+pub taken-more : {w to : ℕ} {p q r : List ℕ} (a v : ℕ) → a ≤ v → Put (setAt p w to ∖ stretch a v) w to p q
+    → Put (setAt q w to ∖ just v) w to q r
     → Put (setAt p w to ∖ stretch a (v + 1)) w to p r
 taken-more {w} {to} {p} a v h P Q = put-then (λ S. S ∖ just v) P Q
     (cut-cut (setAt p w to) (stretch a v) (just v) ∙ ap (λ (X : Set). setAt p w to ∖ X) (sym (stretch-more a v h)))
@@ -149,18 +154,23 @@ taken-more {w} {to} {p} a v h P Q = put-then (λ S. S ∖ just v) P Q
 -- only the vertices that pass a test
 pub struck-none : (w to a : ℕ) (F : Set) (p : List ℕ) → Put (setAt p w to ∖ (stretch a a ∩ F)) w to p p
 struck-none w to a F p = put-as
-    (sym (ap (λ (X : Set). setAt p w to ∖ X) (ap (λ (X : Set). X ∩ F) (stretch-none a) ∙ none-meet F) ∙ cut-none (setAt p w to)))
+    (sym (ap (λ (X : Set). setAt p w to ∖ X) (ap (λ (X : Set). X ∩ F) (stretch-none a) ∙ none-meet F)
+    ∙ cut-none (setAt p w to)))
     (put-none w to p)
 
-pub struck-more : {w to : ℕ} {p q r : List ℕ} (a v : ℕ) (F : Set) → a ≤ v → Put (setAt p w to ∖ (stretch a v ∩ F)) w to p q
+pub struck-more : {w to : ℕ} {p q r : List ℕ} (a v : ℕ) (F : Set) → a ≤ v
+    → Put (setAt p w to ∖ (stretch a v ∩ F)) w to p q
     → Put (setAt q w to ∖ (just v ∩ F)) w to q r → Put (setAt p w to ∖ (stretch a (v + 1) ∩ F)) w to p r
 struck-more {w} {to} {p} a v F h P Q = put-then (λ S. S ∖ (just v ∩ F)) P Q
     (cut-cut (setAt p w to) (stretch a v ∩ F) (just v ∩ F)
-    ∙ ap (λ (X : Set). setAt p w to ∖ X) (sym (ap (λ (X : Set). X ∩ F) (stretch-more a v h) ∙ join-meet (stretch a v) (just v) F)))
+    ∙ ap (λ (X : Set). setAt p w to ∖ X) (sym (ap (λ (X : Set). X ∩ F) (stretch-more a v h)
+    ∙ join-meet (stretch a v) (just v) F)))
 
 -- one vertex that passes, one that does not
-pub struck-yes : {w to : ℕ} {p q : List ℕ} (v : ℕ) (F : Set) → F v ≡ true → Put (setAt p w to ∖ just v) w to p q → Put (setAt p w to ∖ (just v ∩ F)) w to p q
+pub struck-yes : {w to : ℕ} {p q : List ℕ} (v : ℕ) (F : Set) → F v ≡ true → Put (setAt p w to ∖ just v) w to p q
+    → Put (setAt p w to ∖ (just v ∩ F)) w to p q
 struck-yes {w} {to} {p} v F h P = put-as (ap (λ (X : Set). setAt p w to ∖ X) (sym (just-yes v F h))) P
 
 pub struck-no : (w to v : ℕ) (F : Set) (p : List ℕ) → F v ≡ false → Put (setAt p w to ∖ (just v ∩ F)) w to p p
-struck-no w to v F p h = put-as (sym (ap (λ (X : Set). setAt p w to ∖ X) (just-no v F h) ∙ cut-none (setAt p w to))) (put-none w to p)
+struck-no w to v F p h = put-as (sym (ap (λ (X : Set). setAt p w to ∖ X) (just-no v F h) ∙ cut-none (setAt p w to)))
+    (put-none w to p)

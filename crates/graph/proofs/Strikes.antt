@@ -1,19 +1,20 @@
 -- Laws of what a rule row strikes: the partners by its pairs, and rows that are struck one after another.
 use mathlib.Core.Path.{_≡_, refl, sym, ap, _∙_, fun-ext}
-use mathlib.Core.Bool.{Bool}
+use mathlib.Core.Bool.{Bool, true, false, cond, _&&_, _||_}
 use mathlib.Core.List.{List}
 use Prim.Native.Nat.{ℕ, _+_, _-_, _*_, _≤_, _<_}
 use native.Mathlib.Decide.{ℕ-discrete, decLt}
 use native.Mathlib.Omega.{arith}
 use native.Mathlib.Numerals.{add-one}
-use borrow.Author.Tests.{eqb-true, eq-eqb, ne-eqb}
-use lib.Dec.{eqb}
+use borrow.Author.Tests.{eqb-true, eq-eqb, ne-eqb, leb-true, le-leb}
+use lib.Dec.{eqb, leb}
 use Rattle.sets.specs.Below.{any, first as lowest}
 use Rattle.sets.specs.Sets.{Set, _⊆_, _∩_, _∪_, _∖_, nothing, just}
-use Rattle.sets.proofs.Tests.{and-r}
+use Rattle.sets.proofs.Tests.{iff, and-l, and-r, and-in, and-false}
 use Rattle.sets.proofs.Below.{first-lt, first-is}
 use Rattle.sets.proofs.Sets.{join-assoc}
-use Rattle.sheet_rows.specs.Rows.{freq}
+use Rattle.sheet_rows.specs.Rows.{freq, pairFirst, pairSecond}
+use Rattle.rules.specs.Pairs.{samePair, listsPair}
 use Rattle.rows.specs.Rows.{setAt, rowAt, Outside, Put}
 use Rattle.rows.proofs.Rows.{row-inside, outside-none, outside-then, outside-wide, above, below}
 use Rattle.graph.specs.declared.Side.{Side}
@@ -22,63 +23,135 @@ use Rattle.graph.proofs.Spans.{stretch-in, none-join, join-none, cut-ba
 
 -- partners
 
-pub partner-is : (ps : List ℕ) (turned : Bool) (first x i : ℕ) → ownPlace ps turned i ≡ x → partner ps turned first x i ≡ just (first + otherPlace ps turned i)
-unfolding partner just
-partner-is ps turned first x i e = fun-ext (λ v. rw (eq-eqb (ownPlace ps turned i) x e))
+turned-and : (a b : Bool) → a && b ≡ b && a
+turned-and true true = refl
+turned-and true false = refl
+turned-and false true = refl
+turned-and false false = refl
 
-pub partner-no : (ps : List ℕ) (turned : Bool) (first x i : ℕ) → (ownPlace ps turned i ≡ x → ⊥) → partner ps turned first x i ≡ nothing
-unfolding partner nothing
-partner-no ps turned first x i e = fun-ext (λ v. rw (ne-eqb (ownPlace ps turned i) x e))
+-- pair row i has the positions x and y, each in its link's list
+paired : List ℕ → Bool → ℕ → ℕ → ℕ → Bool
+paired ps turned x y i = cond turned (samePair ps y x i) (samePair ps x y i)
+
+paired-is : (ps : List ℕ) (turned : Bool) (x y i : ℕ) → paired ps turned x y i ≡ eqb (ownPlace ps turned i) x
+    && eqb (otherPlace ps turned i) y
+unfolding paired samePair ownPlace otherPlace
+paired-is ps true x y i = turned-and (eqb (pairFirst ps i) y) (eqb (pairSecond ps i) x)
+paired-is ps false x y i = refl
+
+partner-of : (ps : List ℕ) (turned : Bool) (first x i v : ℕ)
+    → partner ps turned first x i v ≡ leb first v && (eqb (ownPlace ps turned i) x
+    && eqb (otherPlace ps turned i) (v - first))
+unfolding partner paired
+partner-of ps turned first x i v = ap (λ b. leb first v && b) (paired-is ps turned x (v - first) i)
+
+pub partner-is : (ps : List ℕ) (turned : Bool) (first x i : ℕ) → ownPlace ps turned i ≡ x
+    → partner ps turned first x i ≡ just (first + otherPlace ps turned i)
+unfolding just
+partner-is ps turned first x i e = fun-ext (λ v. partner-of ps turned first x i v
+    ∙ rw (eq-eqb (ownPlace ps turned i) x e) (iff _ _
+    (λ t. let l = leb-true first v (and-l (leb first v) _ t) in
+    let q = eqb-true (otherPlace ps turned i) (v - first) (and-r (leb first v) _ t) in
+    eq-eqb v (first + otherPlace ps turned i) (omega arith))
+    (λ t. let q = eqb-true v (first + otherPlace ps turned i) t in
+    and-in (le-leb first v (omega arith)) (eq-eqb (otherPlace ps turned i) (v - first) (omega arith)))))
+
+pub partner-no : (ps : List ℕ) (turned : Bool) (first x i : ℕ) → (ownPlace ps turned i ≡ x → ⊥)
+    → partner ps turned first x i ≡ nothing
+unfolding nothing
+partner-no ps turned first x i e = fun-ext (λ v. partner-of ps turned first x i v
+    ∙ rw (ne-eqb (ownPlace ps turned i) x e) (and-false (leb first v) false refl))
 
 partners-none : (ps : List ℕ) (turned : Bool) (first x base : ℕ) → partners ps turned first x base 0 ≡ nothing
-unfolding partners any nothing
-partners-none ps turned first x base = refl
+unfolding partners listsPair any nothing
+partners-none ps turned first x base = fun-ext (λ v. and-false (leb first v) _ (no turned))
+  where
+    no : (b : Bool) → cond b false false ≡ false
+    no true = refl
+    no false = refl
 
-partners-more : (ps : List ℕ) (turned : Bool) (first x base i : ℕ) → partners ps turned first x base (i + 1) ≡ partners ps turned first x base i ∪ partner ps turned first x (base + i)
-unfolding partners any _∪_
-partners-more ps turned first x base i = fun-ext (λ v. rw add-one)
+partners-more : (ps : List ℕ) (turned : Bool) (first x base i : ℕ)
+    → partners ps turned first x base (i + 1) ≡ partners ps turned first x base i ∪ partner ps turned first x (base + i)
+unfolding partners partner listsPair any _∪_
+partners-more ps turned first x base i = fun-ext (λ v. rw add-one (go turned (leb first v) _ _ _ _))
+  where
+    go : (b l a c d e : Bool) → l && cond b (a || c) (d || e) ≡ (l && cond b a d) || (l && cond b c e)
+    go true true a c d e = refl
+    go false true a c d e = refl
+    go b false a c d e = refl
 
 -- one pair row: its partner is added to the row, or it has none for x
 pub partner-put : {w to : ℕ} {p q : List ℕ} (ps : List ℕ) (turned : Bool) (first x i : ℕ) → ownPlace ps turned i ≡ x
-    → Put (setAt p w to ∪ just (first + otherPlace ps turned i)) w to p q → Put (setAt p w to ∪ partner ps turned first x i) w to p q
-partner-put {w} {to} {p} ps turned first x i e P = put-as (ap (λ (X : Set). setAt p w to ∪ X) (sym (partner-is ps turned first x i e))) P
+    → Put (setAt p w to ∪ just (first + otherPlace ps turned i)) w to p q
+    → Put (setAt p w to ∪ partner ps turned first x i) w to p q
+partner-put {w} {to} {p} ps turned first x i e P = put-as
+    (ap (λ (X : Set). setAt p w to ∪ X) (sym (partner-is ps turned first x i e))) P
 
-pub partner-left : (w to : ℕ) (p ps : List ℕ) (turned : Bool) (first x i : ℕ) → (ownPlace ps turned i ≡ x → ⊥) → Put (setAt p w to ∪ partner ps turned first x i) w to p p
+pub partner-left : (w to : ℕ) (p ps : List ℕ) (turned : Bool) (first x i : ℕ) → (ownPlace ps turned i ≡ x → ⊥)
+    → Put (setAt p w to ∪ partner ps turned first x i) w to p p
 partner-left w to p ps turned first x i e =
-    put-as (sym (ap (λ (X : Set). setAt p w to ∪ X) (partner-no ps turned first x i e) ∙ join-none (setAt p w to))) (put-none w to p)
+    put-as (sym (ap (λ (X : Set). setAt p w to ∪ X) (partner-no ps turned first x i e) ∙ join-none (setAt p w to)))
+    (put-none w to p)
 
 -- the loop over the pair rows: none yet, and one more
-pub partners-put-none : (w to : ℕ) (p ps : List ℕ) (turned : Bool) (first x base : ℕ) → Put (setAt p w to ∪ partners ps turned first x base 0) w to p p
+pub partners-put-none : (w to : ℕ) (p ps : List ℕ) (turned : Bool) (first x base : ℕ)
+    → Put (setAt p w to ∪ partners ps turned first x base 0) w to p p
 partners-put-none w to p ps turned first x base =
-    put-as (sym (ap (λ (X : Set). setAt p w to ∪ X) (partners-none ps turned first x base) ∙ join-none (setAt p w to))) (put-none w to p)
+    put-as (sym (ap (λ (X : Set). setAt p w to ∪ X) (partners-none ps turned first x base) ∙ join-none (setAt p w to)))
+    (put-none w to p)
 
-pub partners-put-more : {w to : ℕ} {p q r : List ℕ} (S : Set) (ps : List ℕ) (turned : Bool) (first x base i : ℕ) → Put (S ∪ partners ps turned first x base i) w to p q
-    → Put (setAt q w to ∪ partner ps turned first x (base + i)) w to q r → Put (S ∪ partners ps turned first x base (i + 1)) w to p r
+pub partners-put-more : {w to : ℕ} {p q r : List ℕ} (S : Set) (ps : List ℕ) (turned : Bool) (first x base i : ℕ)
+    → Put (S ∪ partners ps turned first x base i) w to p q
+    → Put (setAt q w to ∪ partner ps turned first x (base + i)) w to q r
+    → Put (S ∪ partners ps turned first x base (i + 1)) w to p r
 partners-put-more S ps turned first x base i P Q = put-then (λ T. T ∪ partner ps turned first x (base + i)) P Q
-    (join-assoc S (partners ps turned first x base i) (partner ps turned first x (base + i)) ∙ ap (λ (X : Set). S ∪ X) (sym (partners-more ps turned first x base i)))
+    (join-assoc S (partners ps turned first x base i) (partner ps turned first x (base + i))
+    ∙ ap (λ (X : Set). S ∪ X) (sym (partners-more ps turned first x base i)))
+
+-- a pair row that lists the two positions
+listing : (ps : List ℕ) (base m x y : ℕ) → listsPair ps base m x y ≡ true
+    → (i : ℕ) × (i < m) × (samePair ps x y (base + i) ≡ true)
+unfolding listsPair
+listing ps base m x y t =
+    let p : ℕ → Bool = λ i. samePair ps x y (base + i) in
+    (lowest m p, first-lt m p t, first-is m p t)
+
+other-of : (ps : List ℕ) (turned : Bool) (x y base m : ℕ)
+    → cond turned (listsPair ps base m y x) (listsPair ps base m x y) ≡ true
+    → (i : ℕ) × (i < m) × (otherPlace ps turned (base + i) ≡ y)
+unfolding otherPlace samePair
+other-of ps true x y base m t =
+    let o = listing ps base m y x t in
+    (o .0, o .1, eqb-true (pairFirst ps (base + o .0)) y (and-l (eqb (pairFirst ps (base + o .0)) y) _ (o .2)))
+other-of ps false x y base m t =
+    let o = listing ps base m x y t in
+    (o .0, o .1, eqb-true (pairSecond ps (base + o .0)) y (and-r (eqb (pairFirst ps (base + o .0)) x) _ (o .2)))
 
 -- partners are vertices of the other link
-pub partners-in : (ps : List ℕ) (turned : Bool) (first x base m end : ℕ) → ((i : ℕ) → i < m → first + otherPlace ps turned (base + i) < end)
+pub partners-in : (ps : List ℕ) (turned : Bool) (first x base m end : ℕ)
+    → ((i : ℕ) → i < m → first + otherPlace ps turned (base + i) < end)
     → partners ps turned first x base m ⊆ stretch first end
-unfolding partners partner
+unfolding partners
 partners-in ps turned first x base m end h v e =
-    let i = lowest m (λ i. partner ps turned first x (base + i) v) in
-    let l = first-lt m (λ i. partner ps turned first x (base + i) v) e in
-    let q = eqb-true v (first + otherPlace ps turned (base + i)) (and-r (eqb (ownPlace ps turned (base + i)) x) _ (first-is m (λ i. partner ps turned first x (base + i) v) e)) in
-    stretch-in first end v (omega arith) (omega (arith, h i l))
+    let l = leb-true first v (and-l (leb first v) _ e) in
+    let o = other-of ps turned x (v - first) base m (and-r (leb first v) _ e) in
+    stretch-in first end v l (omega (arith, h (o .0) (o .1), o .2))
 
 -- the other link's vertices struck, and the partners put back
-pub unlisted-put : {w to : ℕ} {p q r : List ℕ} (A B : Set) → B ⊆ A → A ⊆ setAt p w to → Put (setAt p w to ∖ A) w to p q → Put (setAt q w to ∪ B) w to q r
+pub unlisted-put : {w to : ℕ} {p q r : List ℕ} (A B : Set) → B ⊆ A → A ⊆ setAt p w to → Put (setAt p w to ∖ A) w to p q
+    → Put (setAt q w to ∪ B) w to q r
     → Put (setAt p w to ∖ (A ∖ B)) w to p r
 unlisted-put {w} {to} {p} A B f g P Q = put-then (λ S. S ∪ B) P Q (cut-back (setAt p w to) A B f g)
 
 -- a stretch put into an empty row
-pub stretch-put : {w to : ℕ} {p q r : List ℕ} (a b : ℕ) → Put nothing w to p q → Put (setAt q w to ∪ stretch a b) w to q r → Put (stretch a b) w to p r
+pub stretch-put : {w to : ℕ} {p q r : List ℕ} (a b : ℕ) → Put nothing w to p q
+    → Put (setAt q w to ∪ stretch a b) w to q r → Put (stretch a b) w to p r
 stretch-put a b P Q = put-then (λ S. S ∪ stretch a b) P Q (none-join (stretch a b))
 
 -- what a rule bars, by its kind
 pub barred-listed : (fs ps : List ℕ) (s : Side) (u : ℕ) → s .kind ≡ 3
-    → stretch (s .first) (s .end) ∖ partners ps (s .turned) (s .first) (u - s .from) (s .value) (s .count) ≡ barred fs ps s u
+    → stretch (s .first) (s .end) ∖ partners ps (s .turned) (s .first) (u - s .from) (s .value) (s .count)
+    ≡ barred fs ps s u
 unfolding barred
 barred-listed fs ps s u e = rw (eq-eqb (s .kind) 3 e)
 
@@ -93,7 +166,8 @@ module _ (F : ℕ → Set) (w graph n : ℕ) where
   pub rows-none : (lo : ℕ) (p : List ℕ) → Struck F lo lo w graph n p p
   rows-none lo p = record { rows = λ x a b. absurd (omega arith); others = λ x l h. refl; rest = outside-none _ _ p }
 
-  pub rows-more : {p q r : List ℕ} (lo u : ℕ) → lo ≤ u → u < n → Struck F lo u w graph n p q → Struck F u (u + 1) w graph n q r
+  pub rows-more : {p q r : List ℕ} (lo u : ℕ) → lo ≤ u → u < n → Struck F lo u w graph n p q
+      → Struck F u (u + 1) w graph n q r
       → Struck F lo (u + 1) w graph n p r
   rows-more {p} {q} {r} lo u a b P Q = record {
     rows = λ x l h. go x l h (ℕ-discrete x u);
@@ -102,12 +176,14 @@ module _ (F : ℕ → Set) (w graph n : ℕ) where
   }
     where
       go : (x : ℕ) → lo ≤ x → x < u + 1 → Dec (x ≡ u) → rowAt r w graph x ≡ rowAt p w graph x ∖ F x
-      go x l h (yes e) = Q .rows x (omega arith) h ∙ ap (λ (X : Set). X ∖ F x) (P .others x (omega arith) (λ d g. omega arith))
+      go x l h (yes e) = Q .rows x (omega arith) h ∙ ap (λ (X : Set). X ∖ F x)
+          (P .others x (omega arith) (λ d g. omega arith))
       go x l h (no e) = Q .others x (omega arith) (λ d g. e (omega arith)) ∙ P .rows x l (omega arith)
 
   -- one row written
   module _ (u at : ℕ) (b : u < n) (here : at ≡ graph + u * w) where
-    others-same : {S : Set} {p q : List ℕ} → Put S w at p q → (x : ℕ) → x < n → (u ≤ x → x < u + 1 → ⊥) → rowAt q w graph x ≡ rowAt p w graph x
+    others-same : {S : Set} {p q : List ℕ} → Put S w at p q → (x : ℕ) → x < n → (u ≤ x → x < u + 1 → ⊥)
+        → rowAt q w graph x ≡ rowAt p w graph x
     others-same {S} {p} {q} P x l h = go (decLt x u) (decLt u x)
       where
         go : Dec (x < u) → Dec (u < x) → rowAt q w graph x ≡ rowAt p w graph x
@@ -120,7 +196,8 @@ module _ (F : ℕ → Set) (w graph n : ℕ) where
 
     pub row-struck : {p q : List ℕ} → Put (setAt p w at ∖ F u) w at p q → Struck F u (u + 1) w graph n p q
     row-struck {p} {q} P = record {
-      rows = λ x d e. let i : x ≡ u = omega arith in let P′ : setAt q w (graph + u * w) ≡ setAt p w (graph + u * w) ∖ F u = rw here at (P .here) in rw i P′;
+      rows = λ x d e. let i : x ≡ u = omega arith in let P′ : setAt q w (graph + u * w)
+          ≡ setAt p w (graph + u * w) ∖ F u = rw here at (P .here) in rw i P′;
       others = others-same P;
       rest = row-rest P;
     }

@@ -1,16 +1,17 @@
-// The graph of a sheet, its microstructure: its adjacency rows in the work words, and the degree of a vertex.
-// The contracts cite `Built` and `Degree` of specs/Rows.antt; `Parts` of the crate `rules` is what they ask of the four sections.
+// The graph of a sheet, its microstructure: its adjacency rows in the work words.
+// The contracts cite `Built` of specs/Rows.antt; `Sections` of the crate `rules` is what they ask of the four sections.
 mod span;
 mod strike;
 
 ghost use mathlib.Core.Path.{_≡_};
-ghost use Prim.Native.Nat.{ℕ, _+_, _*_, _^_, _<_, _≤_};
+ghost use Prim.Native.Nat.{ℕ, _+_, _*_, _<_, _≤_};
 ghost use lib.ListN.{length};
 ghost use Rattle.sets.specs.Sets.{whole};
 ghost use Rattle.rows.specs.Rows.{setAt, rowAt, Put};
-ghost use Rattle.rules.specs.Parts.{Parts};
-ghost use Rattle.graph.specs.Graph.{adjacent};
-ghost use Rattle.graph.specs.Rows.{RowsFit, Built, Degree};
+ghost use Rattle.rules.specs.Parts.{LinkRows, RuleRow, Sections};
+ghost use Rattle.graph.specs.Graph.{adjacent, unruled};
+ghost use Rattle.graph.specs.Rows.{RowsFit, Built};
+use cliques::Place;
 use rules::layer;
 use sheet_rows::link_count;
 use sheet_rows::link_first;
@@ -20,11 +21,11 @@ use span::add_span;
 use span::take_span;
 use strike::side;
 use strike::strike_side;
-use vset::size;
 
-// One side of a rule row: its kind, value and count; the vertices of one of its links, from `from` up to `upto`, whose rows are struck;
-// and those of its other link, from `first` up to `end`, which are struck from them. `turned` where the other link is the lower one.
-pub struct Side {
+// One side of a rule row: its kind, value and count; the vertices of one of its links, from `from` up to `upto`, whose
+// rows are struck; and those of its other link, from `first` up to `end`, which are struck from them. `turned` where
+// the other link is the lower one.
+struct Side {
     pub kind: usize,
     pub value: usize,
     pub count: usize,
@@ -35,28 +36,19 @@ pub struct Side {
     pub end: usize,
 }
 
-// Row u, with every vertex but those of u's layer: the neighbours of u before any rule. The row at `full`, row u or one behind it, has every
-// vertex.
-fn start_row(
-    part: &mut [u64],
-    w: usize,
-    full: usize,
-    graph: usize,
-    ls: &[u8],
-    fs: &[u8],
-    rs: &[u8],
-    ps: &[u8],
-    k: usize,
-    n: usize,
-    q: usize,
-    t: usize,
-    u: usize,
-)
-    requires { ⌜ Parts (now ls) (now fs) (now rs) (now ps) k n q t × RowsFit w graph n (length (now part)) × (u < n) × (graph + u * w ≤ full) × (full + w ≤ length (now part)) × (setAt (now part) w full ≡ whole n) ⌝ }
-    ensures { λ r. ⌜ Put (adjacent (now (ls .entry)) (now (fs .entry)) (now (rs .entry)) (now (ps .entry)) k n 0 u) w (graph + u * w) (now (part .entry)) (now (part .exit)) ⌝ }
+// Row u, with every vertex but those of u's layer: the neighbours of u before any rule. The row at `full`, row u or one
+// behind it, has every vertex.
+fn start_row(part: &mut [u64], place: Place, full: usize, ls: &[u8], u: usize)
+    requires { ⌜ LinkRows (now ls) (place .k) (place .n)
+        × RowsFit (place .w) (place .graph) (place .n) (length (now part))
+        × (u < place .n) × (place .graph + u * place .w ≤ full) × (full + place .w ≤ length (now part))
+        × (setAt (now part) (place .w) full ≡ whole (place .n)) ⌝ }
+    ensures { λ r. ⌜ Put (unruled (now (ls .entry)) (place .k) (place .n) u)
+        (place .w) (place .graph + u * place .w) (now (part .entry)) (now (part .exit)) ⌝ }
 {
-    let row = rows::row_at(graph, w, u, n);
-    let l = layer(ls, k, u);
+    let w = place.w;
+    let row = rows::row_at(place.graph, w, u, place.n);
+    let l = layer(ls, place.k, u);
     let first = link_first(ls, l);
     let end = first + link_count(ls, l);
     rows::copy(part, w, row, full);
@@ -64,90 +56,60 @@ fn start_row(
 }
 
 // The rows before any rule. The last row has every vertex until it is written, after all others.
-fn start_rows(
-    part: &mut [u64],
-    w: usize,
-    graph: usize,
-    ls: &[u8],
-    fs: &[u8],
-    rs: &[u8],
-    ps: &[u8],
-    k: usize,
-    n: usize,
-    q: usize,
-    t: usize,
-)
-    requires { ⌜ Parts (now ls) (now fs) (now rs) (now ps) k n q t × RowsFit w graph n (length (now part)) ⌝ }
-    ensures { λ r. ⌜ Built (now (ls .entry)) (now (fs .entry)) (now (rs .entry)) (now (ps .entry)) k n 0 w graph (now (part .entry)) (now (part .exit)) ⌝ }
+fn start_rows(part: &mut [u64], place: Place, ls: &[u8])
+    requires { ⌜ LinkRows (now ls) (place .k) (place .n)
+        × RowsFit (place .w) (place .graph) (place .n) (length (now part)) ⌝ }
+    ensures { λ r. ⌜ Built (unruled (now (ls .entry)) (place .k) (place .n))
+        (place .w) (place .graph) (place .n) (now (part .entry)) (now (part .exit)) ⌝ }
 {
-    let last = rows::row_at(graph, w, n - 1, n);
+    let w = place.w;
+    let n = place.n;
+    let last = rows::row_at(place.graph, w, n - 1, n);
     rows::clear(part, w, last);
     add_span(part, w, last, 0, n);
     let mut u = 0;
     while u < n {
-        start_row(part, w, last, graph, ls, fs, rs, ps, k, n, q, t, u);
+        start_row(part, place, last, ls, u);
         u += 1;
     }
 }
 
 // Rule row j: what it bars is struck from the rows of both its links.
-fn strike_rule(
-    part: &mut [u64],
-    w: usize,
-    graph: usize,
-    ls: &[u8],
-    fs: &[u8],
-    rs: &[u8],
-    ps: &[u8],
-    k: usize,
-    n: usize,
-    q: usize,
-    t: usize,
-    j: usize,
-)
-    requires { ⌜ Parts (now ls) (now fs) (now rs) (now ps) k n q t × RowsFit w graph n (length (now part)) × (j < q) ⌝ }
-    requires { ⌜ ((u : ℕ) → u < n → rowAt (now part) w graph u ≡ adjacent (now ls) (now fs) (now rs) (now ps) k n j u) ⌝ }
-    ensures { λ r. ⌜ Built (now (ls .entry)) (now (fs .entry)) (now (rs .entry)) (now (ps .entry)) k n (j + 1) w graph (now (part .entry)) (now (part .exit)) ⌝ }
+fn strike_rule(part: &mut [u64], place: Place, ls: &[u8], fs: &[u8], rs: &[u8], ps: &[u8], j: usize)
+    requires { ⌜ RuleRow (now ls) (now fs) (now rs) (now ps) (place .k) (place .n) j
+        × RowsFit (place .w) (place .graph) (place .n) (length (now part)) ⌝ }
+    requires { ⌜ ((u : ℕ) → u < place .n → rowAt (now part) (place .w) (place .graph) u
+        ≡ adjacent (now ls) (now fs) (now rs) (now ps) (place .k) (place .n) j u) ⌝ }
+    ensures { λ r. ⌜ Built (adjacent (now (ls .entry)) (now (fs .entry)) (now (rs .entry)) (now (ps .entry))
+        (place .k) (place .n) (j + 1)) (place .w) (place .graph) (place .n) (now (part .entry)) (now (part .exit)) ⌝ }
 {
     let a = rule_a(rs, j);
     let b = rule_b(rs, j);
     let lower = side(ls, rs, j, false, a, b);
-    strike_side(part, w, graph, n, fs, ps, lower);
+    strike_side(part, place, fs, ps, lower);
     let higher = side(ls, rs, j, true, b, a);
-    strike_side(part, w, graph, n, fs, ps, higher);
+    strike_side(part, place, fs, ps, higher);
 }
 
-// The rows of the graph, of w words each, from `graph` on.
+// The rows of the graph, under q rules.
 pub fn build_rows(
+    part: &mut [u64],
+    place: Place,
     ls: &[u8],
     fs: &[u8],
     rs: &[u8],
     ps: &[u8],
-    k: usize,
-    n: usize,
     q: usize,
-    t: usize,
-    w: usize,
-    graph: usize,
-    part: &mut [u64],
 )
-    requires { ⌜ Parts (now ls) (now fs) (now rs) (now ps) k n q t × RowsFit w graph n (length (now part)) ⌝ }
-    ensures { λ r. ⌜ Built (now (ls .entry)) (now (fs .entry)) (now (rs .entry)) (now (ps .entry)) k n q w graph (now (part .entry)) (now (part .exit)) ⌝ }
+    requires { ⌜ Sections (now ls) (now fs) (now rs) (now ps) (place .k) (place .n) q
+        × RowsFit (place .w) (place .graph) (place .n) (length (now part)) ⌝ }
+    ensures { λ r. ⌜ Built (adjacent (now (ls .entry)) (now (fs .entry)) (now (rs .entry)) (now (ps .entry))
+        (place .k) (place .n) q) (place .w) (place .graph) (place .n) (now (part .entry)) (now (part .exit)) ⌝ }
 {
-    start_rows(part, w, graph, ls, fs, rs, ps, k, n, q, t);
+    start_rows(part, place, ls);
     let mut j = 0;
     while j < q {
-        strike_rule(part, w, graph, ls, fs, rs, ps, k, n, q, t, j);
+        strike_rule(part, place, ls, fs, rs, ps, j);
         j += 1;
     }
-}
-
-// The degree of vertex u: the number of ones in its row.
-pub fn degree(part: &[u64], w: usize, graph: usize, n: usize, u: usize) -> usize
-    requires { ⌜ (u < n) × (n ≤ 64 * w) × (64 * w < 2 ^ 64) × (graph + n * w ≤ length (now part)) ⌝ }
-    ensures { λ r. ⌜ Degree w graph n u (now (part .entry)) r ⌝ }
-{
-    let a = rows::row_at(graph, w, u, n);
-    let e = a + w;
-    size(&part[a..e])
 }

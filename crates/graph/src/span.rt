@@ -8,7 +8,8 @@ ghost use Rattle.graph.specs.Strikes.{stretch};
 // The vertices from `first` up to `end` are added to row `to`.
 pub fn add_span(part: &mut [u64], w: usize, to: usize, first: usize, end: usize)
     requires { ⌜ (to + w ≤ length (now part)) × (first ≤ end) × (end ≤ 64 * w) ⌝ }
-    ensures { λ r. ⌜ Put (setAt (now (part .entry)) w to ∪ stretch first end) w to (now (part .entry)) (now (part .exit)) ⌝ }
+    ensures { λ r. ⌜ Put (setAt (now (part .entry)) w to ∪ stretch first end) w to (now (part .entry))
+        (now (part .exit)) ⌝ }
 {
     let mut v = first;
     while v < end {
@@ -20,7 +21,8 @@ pub fn add_span(part: &mut [u64], w: usize, to: usize, first: usize, end: usize)
 // The vertices from `first` up to `end` are taken from row `to`.
 pub fn take_span(part: &mut [u64], w: usize, to: usize, first: usize, end: usize)
     requires { ⌜ (to + w ≤ length (now part)) × (first ≤ end) × (end ≤ 64 * w) ⌝ }
-    ensures { λ r. ⌜ Put (setAt (now (part .entry)) w to ∖ stretch first end) w to (now (part .entry)) (now (part .exit)) ⌝ }
+    ensures { λ r. ⌜ Put (setAt (now (part .entry)) w to ∖ stretch first end) w to (now (part .entry))
+        (now (part .exit)) ⌝ }
 {
     let mut v = first;
     while v < end {

@@ -6,9 +6,11 @@ ghost use Rattle.sets.specs.Sets.{_⊆_, _∩_, _∪_, _∖_, just};
 ghost use Rattle.sheet_rows.specs.Rows.{freqBytes, linkBytes, ruleBytes, pairBytes};
 ghost use Rattle.rows.specs.Rows.{setAt, rowAt, Put};
 ghost use Rattle.graph.specs.Rows.{RowsFit};
-ghost use Rattle.graph.specs.Strikes.{stretch, sideOf, ownPlace, otherPlace, partner, partners, clashing, barred, SideFits, Full, Struck};
+ghost use Rattle.graph.specs.Strikes.{stretch, sideOf, ownPlace, otherPlace, partner, partners, clashing, barred};
+ghost use Rattle.graph.specs.Strikes.{PairsFit, SideFits, Full, Struck};
 use crate::Side;
 use crate::span::take_span;
+use cliques::Place;
 use rules::agree;
 use rules::distance;
 use sheet_rows::freq;
@@ -22,7 +24,8 @@ use sheet_rows::rule_value;
 
 // Rule row j seen from its link a to its link b.
 pub fn side(ls: &[u8], rs: &[u8], j: usize, turned: bool, a: usize, b: usize) -> Side
-    requires { ⌜ (linkBytes * a + linkBytes ≤ length (now ls)) × (linkBytes * b + linkBytes ≤ length (now ls)) × (ruleBytes * j + ruleBytes ≤ length (now rs)) ⌝ }
+    requires { ⌜ (linkBytes * a + linkBytes ≤ length (now ls)) × (linkBytes * b + linkBytes ≤ length (now ls))
+        × (ruleBytes * j + ruleBytes ≤ length (now rs)) ⌝ }
     ensures { λ r. ⌜ r ≡ sideOf (now (ls .entry)) (now (rs .entry)) j turned a b ⌝ }
 {
     let from = link_first(ls, a);
@@ -51,7 +54,8 @@ fn strike_one(
     v: usize,
 )
     requires { ⌜ (to + w ≤ length (now part)) × (v < 64 * w) × (freqBytes * v + freqBytes ≤ length (now fs)) ⌝ }
-    ensures { λ r. ⌜ Put (setAt (now (part .entry)) w to ∖ (just v ∩ clashing (now (fs .entry)) kind value x)) w to (now (part .entry)) (now (part .exit)) ⌝ }
+    ensures { λ r. ⌜ Put (setAt (now (part .entry)) w to ∖ (just v ∩ clashing (now (fs .entry)) kind value x))
+        w to (now (part .entry)) (now (part .exit)) ⌝ }
 {
     if agree(kind, value, distance(x, freq(fs, v)), false) {
         return;
@@ -59,22 +63,19 @@ fn strike_one(
     rows::remove(part, w, to, v);
 }
 
-// The vertices from `first` up to `end` that a rule of kind 1 or 2 does not allow with the frequency x are struck from row `to`.
-fn strike_near(
-    part: &mut [u64],
-    w: usize,
-    to: usize,
-    fs: &[u8],
-    kind: usize,
-    value: usize,
-    x: usize,
-    first: usize,
-    end: usize,
-)
-    requires { ⌜ (to + w ≤ length (now part)) × (first ≤ end) × (end ≤ 64 * w) × (freqBytes * end ≤ length (now fs)) ⌝ }
-    ensures { λ r. ⌜ Put (setAt (now (part .entry)) w to ∖ (stretch first end ∩ clashing (now (fs .entry)) kind value x)) w to (now (part .entry)) (now (part .exit)) ⌝ }
+// The other link's vertices that a rule of kind 1 or 2 does not allow with the frequency x are struck from row `to`.
+fn strike_near(part: &mut [u64], w: usize, to: usize, fs: &[u8], s: Side, x: usize)
+    requires { ⌜ (to + w ≤ length (now part)) × (s .first ≤ s .end) × (s .end ≤ 64 * w)
+        × (freqBytes * s .end ≤ length (now fs)) ⌝ }
+    ensures { λ r. ⌜ Put
+        (setAt (now (part .entry)) w to
+        ∖ (stretch (s .first) (s .end) ∩ clashing (now (fs .entry)) (s .kind) (s .value) x))
+        w to (now (part .entry)) (now (part .exit)) ⌝ }
 {
-    let mut v = first;
+    let kind = s.kind;
+    let value = s.value;
+    let end = s.end;
+    let mut v = s.first;
     while v < end {
         strike_one(part, w, to, fs, kind, value, x, v);
         v += 1;
@@ -114,8 +115,10 @@ fn add_partner(
     x: usize,
     i: usize,
 )
-    requires { ⌜ (to + w ≤ length (now part)) × (pairBytes * i + pairBytes ≤ length (now ps)) × (first + otherPlace (now ps) turned i < 64 * w) × (64 * w < 2 ^ 64) ⌝ }
-    ensures { λ r. ⌜ Put (setAt (now (part .entry)) w to ∪ partner (now (ps .entry)) turned first x i) w to (now (part .entry)) (now (part .exit)) ⌝ }
+    requires { ⌜ (to + w ≤ length (now part)) × (pairBytes * i + pairBytes ≤ length (now ps))
+        × (first + otherPlace (now ps) turned i < 64 * w) × (64 * w < 2 ^ 64) ⌝ }
+    ensures { λ r. ⌜ Put (setAt (now (part .entry)) w to ∪ partner (now (ps .entry)) turned first x i)
+        w to (now (part .entry)) (now (part .exit)) ⌝ }
 {
     if own_place(ps, turned, i) != x {
         return;
@@ -123,19 +126,15 @@ fn add_partner(
     rows::insert(part, w, to, first + other_place(ps, turned, i));
 }
 
-// Row `to` has every vertex of the other link; those are struck that no pair row of the rule, of kind 3, gives position x as a partner.
-fn strike_unlisted(
-    part: &mut [u64],
-    w: usize,
-    to: usize,
-    fs: &[u8],
-    ps: &[u8],
-    n: usize,
-    s: Side,
-    x: usize,
-)
-    requires { ⌜ SideFits (now fs) (now ps) n s × (s .kind ≡ 3) × (n ≤ 64 * w) × (64 * w < 2 ^ 64) × (to + w ≤ length (now part)) × (stretch (s .first) (s .end) ⊆ setAt (now part) w to) ⌝ }
-    ensures { λ r. ⌜ Put (setAt (now (part .entry)) w to ∖ (stretch (s .first) (s .end) ∖ partners (now (ps .entry)) (s .turned) (s .first) x (s .value) (s .count))) w to (now (part .entry)) (now (part .exit)) ⌝ }
+// Row `to` has every vertex of the other link; those are struck that no pair row of the rule, of kind 3, gives
+// position x as a partner.
+fn strike_unlisted(part: &mut [u64], w: usize, to: usize, ps: &[u8], s: Side, x: usize)
+    requires { ⌜ PairsFit (now ps) s × (s .first ≤ s .end) × (s .end ≤ 64 * w) × (64 * w < 2 ^ 64)
+        × (to + w ≤ length (now part)) × (stretch (s .first) (s .end) ⊆ setAt (now part) w to) ⌝ }
+    ensures { λ r. ⌜ Put
+        (setAt (now (part .entry)) w to ∖ (stretch (s .first) (s .end)
+        ∖ partners (now (ps .entry)) (s .turned) (s .first) x (s .value) (s .count)))
+        w to (now (part .entry)) (now (part .exit)) ⌝ }
 {
     let value = s.value;
     let count = s.count;
@@ -151,44 +150,34 @@ fn strike_unlisted(
 }
 
 // Row u is struck: a rule of kind 3 by its pairs, any other by the frequencies.
-fn strike_row(
-    part: &mut [u64],
-    w: usize,
-    graph: usize,
-    n: usize,
-    fs: &[u8],
-    ps: &[u8],
-    s: Side,
-    u: usize,
-)
-    requires { ⌜ SideFits (now fs) (now ps) n s × RowsFit w graph n (length (now part)) × (s .from ≤ u) × (u < n) × (stretch (s .first) (s .end) ⊆ rowAt (now part) w graph u) ⌝ }
-    ensures { λ r. ⌜ Struck (barred (now (fs .entry)) (now (ps .entry)) s) u (u + 1) w graph n (now (part .entry)) (now (part .exit)) ⌝ }
+fn strike_row(part: &mut [u64], place: Place, fs: &[u8], ps: &[u8], s: Side, u: usize)
+    requires { ⌜ SideFits (now fs) (now ps) (place .n) s
+        × RowsFit (place .w) (place .graph) (place .n) (length (now part)) × (s .from ≤ u) × (u < place .n)
+        × (stretch (s .first) (s .end) ⊆ rowAt (now part) (place .w) (place .graph) u) ⌝ }
+    ensures { λ r. ⌜ Struck (barred (now (fs .entry)) (now (ps .entry)) s) u (u + 1)
+        (place .w) (place .graph) (place .n) (now (part .entry)) (now (part .exit)) ⌝ }
 {
-    let row = rows::row_at(graph, w, u, n);
+    let w = place.w;
+    let row = rows::row_at(place.graph, w, u, place.n);
     let kind = s.kind;
     if kind == 3 {
-        strike_unlisted(part, w, row, fs, ps, n, s, u - s.from);
+        strike_unlisted(part, w, row, ps, s, u - s.from);
         return;
     }
-    strike_near(part, w, row, fs, kind, s.value, freq(fs, u), s.first, s.end);
+    strike_near(part, w, row, fs, s, freq(fs, u));
 }
 
 // The rows of one of the rule's links are struck.
-pub fn strike_side(
-    part: &mut [u64],
-    w: usize,
-    graph: usize,
-    n: usize,
-    fs: &[u8],
-    ps: &[u8],
-    s: Side,
-)
-    requires { ⌜ SideFits (now fs) (now ps) n s × RowsFit w graph n (length (now part)) × (s .from ≤ s .upto) × Full s w graph (now part) ⌝ }
-    ensures { λ r. ⌜ Struck (barred (now (fs .entry)) (now (ps .entry)) s) (s .from) (s .upto) w graph n (now (part .entry)) (now (part .exit)) ⌝ }
+pub fn strike_side(part: &mut [u64], place: Place, fs: &[u8], ps: &[u8], s: Side)
+    requires { ⌜ SideFits (now fs) (now ps) (place .n) s
+        × RowsFit (place .w) (place .graph) (place .n) (length (now part))
+        × (s .from ≤ s .upto) × Full s (place .w) (place .graph) (now part) ⌝ }
+    ensures { λ r. ⌜ Struck (barred (now (fs .entry)) (now (ps .entry)) s) (s .from) (s .upto)
+        (place .w) (place .graph) (place .n) (now (part .entry)) (now (part .exit)) ⌝ }
 {
     let mut u = s.from;
     while u < s.upto {
-        strike_row(part, w, graph, n, fs, ps, s, u);
+        strike_row(part, place, fs, ps, s, u);
         u += 1;
     }
 }

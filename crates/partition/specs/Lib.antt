@@ -1,3 +1,3 @@
-pub mod Partition
 pub mod Choice
+pub mod Partition
 pub mod Words

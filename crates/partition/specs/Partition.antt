@@ -1,11 +1,12 @@
 -- The working partition: "one byte a vertex, class 0 to k − 1". A class list gives the class of each of n vertices.
-use mathlib.Core.Bool.{Bool, true, false, not, cond, _&&_}
+use mathlib.Core.Bool.{Bool, false, not, cond, _&&_}
 use mathlib.Core.List.{List, [], _∷_, _++_}
 use Prim.Native.Nat.{ℕ, _+_, _-_, _<_}
 use lib.Dec.{ltb, eqb}
 use lib.ListN.{length, getD, set, replicate}
 use mathlib.Core.Path.{_≡_}
 use Rattle.sets.specs.Below.{all, any, count, loop, tabulate}
+use Rattle.partition.specs.Choice.{classList}
 
 abbrev pub classOf : List ℕ → ℕ → ℕ
 classOf cls v = getD cls v 0
@@ -43,20 +44,20 @@ module _ (n k : ℕ) (adj : ℕ → ℕ → Bool) where
   greedy = loop k fill (replicate n k)
 
   -- every vertex has a class below k
-  unfoldable pub placed : List ℕ → Bool
-  placed cls = all n (λ v. ltb (classOf cls v) k)
+  unfoldable pub allPlaced : List ℕ → Bool
+  allPlaced cls = all n (λ v. ltb (classOf cls v) k)
 
   -- "If more than k classes arise, the layers are used": a vertex is left over once k classes are filled
   unfoldable pub built : List ℕ → List ℕ
-  built layers = cond (placed greedy) greedy layers
+  built layers = cond (allPlaced greedy) greedy layers
 
   -- not "list length not n, class not below k, adjacent vertices in a class"
   unfoldable pub isPartition : List ℕ → Bool
-  isPartition cls = eqb (length cls) n && (placed cls && all n (λ v. free (classOf cls v) cls v))
+  isPartition cls = eqb (length cls) n && (allPlaced cls && all n (λ v. free (classOf cls v) cls v))
 
-  -- the class list of a choice, by the layers and the caller's list
+  -- the class list of a choice: the layers, the classes built on them, or the caller's list
   unfoldable pub classes : ℕ → List ℕ → List ℕ → List ℕ
-  classes choice layers callers = let own = built layers in cond (eqb choice 0) layers (cond (eqb choice 1) own callers)
+  classes choice layers callers = let own = built layers in classList choice callers (cond (eqb choice 1) own layers) n
 
   -- a class list that is a partition: a class below k for each of n vertices, and no two adjacent vertices in a class
   pub record Partition (cls : List ℕ) : Type 0 where

@@ -1,5 +1,6 @@
 // Choice 1: classes filled one after another, or the layers where more than k arise.
-// The part has n degrees, then n places of the order, then the row of the class that is filled, then the graph's rows from `graph` on.
+// The part has n degrees, then n places of the order, then the row of the class that is filled, then the graph's rows
+// from `graph` on.
 ghost use mathlib.Core.Path.{_≡_};
 ghost use Prim.Native.Nat.{ℕ, _+_, _*_, _<_, _≤_};
 ghost use lib.Dec.{ltb};
@@ -8,40 +9,37 @@ ghost use Rattle.sets.specs.Below.{all, tabulate};
 ghost use Rattle.sets.specs.Sets.{_∪_, just};
 ghost use Rattle.rows.specs.Rows.{setAt, Put};
 ghost use Rattle.partition.specs.Partition.{classOf};
-ghost use Rattle.partition.specs.Words.{Space, Joined, Filled, AllFilled, Kept, Built};
+ghost use Rattle.partition.specs.Words.{BuilderRoom, Joined, ClassFilled, ClassesFilled, Kept, ClassesBuilt};
 use super::degrees::put_degrees;
 use super::degrees::put_order;
+use cliques::Place;
 
 // Class c takes v: v is added to the class's row, at `own`, and its class is c.
 fn take_in(part: &mut [u64], w: usize, own: usize, c: usize, v: usize, cls: &mut [u8])
     requires { ⌜ (own + w ≤ length (now part)) × (v < 64 * w) × (v < length (now cls)) × (c < 256) ⌝ }
-    ensures { λ _. ⌜ Put (setAt (now (part .entry)) w own ∪ just v) w own (now (part .entry)) (now (part .exit)) × (now (cls .exit) ≡ set (now (cls .entry)) v c) ⌝ }
+    ensures { λ _. ⌜ Put (setAt (now (part .entry)) w own ∪ just v) w own (now (part .entry)) (now (part .exit))
+        × (now (cls .exit) ≡ set (now (cls .entry)) v c) ⌝ }
 {
     rows::insert(part, w, own, v);
     cls[v] = c as u8;
 }
 
 // Class c takes v, if it is unplaced, which is written k, and adjacent to none of the class's row.
-fn try_join(
-    part: &mut [u64],
-    w: usize,
-    graph: usize,
-    n: usize,
-    k: usize,
-    c: usize,
-    v: usize,
-    cls: &mut [u8],
-)
-    requires { ⌜ Space w graph n (length (now part)) × (length (now cls) ≡ n) × (c < 256) ⌝ }
-    ensures { λ _. ⌜ Joined w graph n k c v (now (part .entry)) (now (part .exit)) (now (cls .entry)) (now (cls .exit)) ⌝ }
+fn try_join(part: &mut [u64], place: Place, c: usize, v: usize, cls: &mut [u8])
+    requires { ⌜ BuilderRoom place (length (now part)) × (length (now cls) ≡ place .n) × (c < 256) ⌝ }
+    ensures { λ _. ⌜ Joined place c v
+        (now (part .entry)) (now (part .exit)) (now (cls .entry)) (now (cls .exit)) ⌝ }
 {
+    let w = place.w;
+    let n = place.n;
+    let k = place.k;
     if v >= n {
         return;
     }
     if cls[v] as usize != k {
         return;
     }
-    let a = rows::row_at(graph, w, v, n);
+    let a = rows::row_at(place.graph, w, v, n);
     let own = n + n;
     if !rows::is_empty_common(part, w, a, own) {
         return;
@@ -50,24 +48,17 @@ fn try_join(
 }
 
 // Class c, which has no member, takes what it can of the m vertices of the order.
-fn fill_class(
-    part: &mut [u64],
-    w: usize,
-    graph: usize,
-    n: usize,
-    k: usize,
-    m: usize,
-    c: usize,
-    cls: &mut [u8],
-)
-    requires { ⌜ Space w graph n (length (now part)) × (length (now cls) ≡ n) × (m ≤ n) × (c < 256) ⌝ }
-    ensures { λ _. ⌜ Filled w graph n k m c (now (part .entry)) (now (part .exit)) (now (cls .entry)) (now (cls .exit)) ⌝ }
+fn fill_class(part: &mut [u64], place: Place, m: usize, c: usize, cls: &mut [u8])
+    requires { ⌜ BuilderRoom place (length (now part)) × (length (now cls) ≡ place .n) × (m ≤ place .n) × (c < 256) ⌝ }
+    ensures { λ _. ⌜ ClassFilled place m c
+        (now (part .entry)) (now (part .exit)) (now (cls .entry)) (now (cls .exit)) ⌝ }
 {
-    rows::clear(part, w, n + n);
+    let n = place.n;
+    rows::clear(part, place.w, n + n);
     let mut i = 0;
     while i < m {
         let v = part[n + i] as usize;
-        try_join(part, w, graph, n, k, c, v, cls);
+        try_join(part, place, c, v, cls);
         i += 1;
     }
 }
@@ -85,22 +76,16 @@ fn unplace(k: usize, cls: &mut [u8])
 }
 
 // k classes are filled from the m vertices of the order.
-fn fill_classes(
-    part: &mut [u64],
-    w: usize,
-    graph: usize,
-    n: usize,
-    k: usize,
-    m: usize,
-    cls: &mut [u8],
-)
-    requires { ⌜ Space w graph n (length (now part)) × (length (now cls) ≡ n) × (m ≤ n) × (k < 256) ⌝ }
-    ensures { λ _. ⌜ AllFilled w graph n k m (now (part .entry)) (now (part .exit)) (now (cls .exit)) ⌝ }
+fn fill_classes(part: &mut [u64], place: Place, m: usize, cls: &mut [u8])
+    requires { ⌜ BuilderRoom place (length (now part)) × (length (now cls) ≡ place .n) × (m ≤ place .n)
+        × (place .k < 256) ⌝ }
+    ensures { λ _. ⌜ ClassesFilled place m (now (part .entry)) (now (part .exit)) (now (cls .exit)) ⌝ }
 {
+    let k = place.k;
     unplace(k, cls);
     let mut c = 0;
     while c < k {
-        fill_class(part, w, graph, n, k, m, c, cls);
+        fill_class(part, place, m, c, cls);
         c += 1;
     }
 }
@@ -145,15 +130,16 @@ pub fn is_placed(n: usize, k: usize, cls: &[u8]) -> bool
 }
 
 // The classes of choice 1, where cls has the layers.
-pub fn build_classes(part: &mut [u64], w: usize, graph: usize, n: usize, k: usize, cls: &mut [u8])
-    requires { ⌜ Space w graph n (length (now part)) × (length (now cls) ≡ n) × (k < 256) ⌝ }
-    ensures { λ _. ⌜ Built w graph n k (now (part .entry)) (now (part .exit)) (now (cls .entry)) (now (cls .exit)) ⌝ }
+pub fn build_classes(part: &mut [u64], place: Place, cls: &mut [u8])
+    requires { ⌜ BuilderRoom place (length (now part)) × (length (now cls) ≡ place .n) × (place .k < 256) ⌝ }
+    ensures { λ _. ⌜ ClassesBuilt place
+        (now (part .entry)) (now (part .exit)) (now (cls .entry)) (now (cls .exit)) ⌝ }
 {
-    put_degrees(part, w, graph, n);
-    let m = put_order(part, n);
+    put_degrees(part, place);
+    let m = put_order(part, place.n);
     keep_classes(cls, part);
-    fill_classes(part, w, graph, n, k, m, cls);
-    if is_placed(n, k, cls) {
+    fill_classes(part, place, m, cls);
+    if is_placed(place.n, place.k, cls) {
         return;
     }
     put_back(part, cls);

@@ -1,5 +1,6 @@
 // The working partition: a class for each of n vertices, below k, and no two adjacent vertices in a class.
-// The contracts cite specs/Partition.antt, the classes of each choice, and specs/Words.antt, how graph and classes stand in words.
+// The contracts cite specs/Partition.antt, the classes of each choice, and specs/Words.antt, how graph and classes
+// stand in words.
 mod classes;
 mod degrees;
 mod masks;
@@ -16,6 +17,7 @@ ghost use Rattle.partition.specs.Partition.{classOf, layersOf};
 ghost use Rattle.partition.specs.Choice.{classList};
 ghost use Rattle.partition.specs.Words.{Alone, AllAlone, Tested};
 pub use classes::build_classes;
+use cliques::Place;
 pub use masks::put_masks;
 use rules::layer;
 
@@ -32,41 +34,30 @@ pub fn put_layers(ls: &[u8], n: usize, k: usize, cls: &mut [u8])
     }
 }
 
-// Whether v is adjacent to none of its class, whose mask is one of k from `masks` on.
-fn is_alone(
-    part: &[u64],
-    w: usize,
-    masks: usize,
-    graph: usize,
-    n: usize,
-    k: usize,
-    cls: &[u8],
-    v: usize,
-) -> bool
-    requires { ⌜ (masks + k * w ≤ length (now part)) × (graph + n * w ≤ length (now part)) × (n ≤ length (now cls)) × (v < n) × (classOf (now cls) v < k) ⌝ }
-    ensures { λ r. ⌜ Alone w masks graph n k (now (cls .entry)) (now (part .entry)) v r ⌝ }
+// Whether v is adjacent to none of its class, where the masks stand.
+fn is_alone(part: &[u64], place: Place, cls: &[u8], v: usize) -> bool
+    requires { ⌜ (place .masks + place .k * place .w ≤ length (now part))
+        × (place .graph + place .n * place .w ≤ length (now part))
+        × (place .n ≤ length (now cls)) × (v < place .n) × (classOf (now cls) v < place .k) ⌝ }
+    ensures { λ r. ⌜ Alone place (now (cls .entry)) (now (part .entry)) v r ⌝ }
 {
-    let a = rows::row_at(graph, w, v, n);
-    let b = rows::row_at(masks, w, cls[v] as usize, k);
+    let w = place.w;
+    let a = rows::row_at(place.graph, w, v, place.n);
+    let b = rows::row_at(place.masks, w, cls[v] as usize, place.k);
     rows::is_empty_common(part, w, a, b)
 }
 
 // Whether each of n vertices is adjacent to none of its class.
-fn all_alone(
-    part: &[u64],
-    w: usize,
-    masks: usize,
-    graph: usize,
-    n: usize,
-    k: usize,
-    cls: &[u8],
-) -> bool
-    requires { ⌜ (masks + k * w ≤ length (now part)) × (graph + n * w ≤ length (now part)) × (n ≤ length (now cls)) × (all n (λ v. ltb (classOf (now cls) v) k) ≡ true) ⌝ }
-    ensures { λ r. ⌜ AllAlone w masks graph n k (now (cls .entry)) (now (part .entry)) r ⌝ }
+fn all_alone(part: &[u64], place: Place, cls: &[u8]) -> bool
+    requires { ⌜ (place .masks + place .k * place .w ≤ length (now part))
+        × (place .graph + place .n * place .w ≤ length (now part)) × (place .n ≤ length (now cls))
+        × (all (place .n) (λ v. ltb (classOf (now cls) v) (place .k)) ≡ true) ⌝ }
+    ensures { λ r. ⌜ AllAlone place (now (cls .entry)) (now (part .entry)) r ⌝ }
 {
+    let n = place.n;
     let mut v = 0;
     while v < n {
-        if !is_alone(part, w, masks, graph, n, k, cls, v) {
+        if !is_alone(part, place, cls, v) {
             return false;
         }
         v += 1;
@@ -74,27 +65,20 @@ fn all_alone(
     true
 }
 
-// Choice 2: whether the caller's list is a partition. The k rows from `masks` on, before the graph's, are written.
-pub fn is_partition(
-    part: &mut [u64],
-    w: usize,
-    masks: usize,
-    graph: usize,
-    n: usize,
-    k: usize,
-    cls: &[u8],
-) -> bool
-    requires { ⌜ (masks + k * w ≤ graph) × (graph + n * w ≤ length (now part)) × (n ≤ 64 * w) ⌝ }
-    ensures { λ r. ⌜ Tested w masks graph n k (now (cls .entry)) (now (part .entry)) (now (part .exit)) r ⌝ }
+// Choice 2: whether the caller's list is a partition. The k rows of the masks, before the graph's, are written.
+pub fn is_partition(part: &mut [u64], place: Place, cls: &[u8]) -> bool
+    requires { ⌜ (place .masks + place .k * place .w ≤ place .graph)
+        × (place .graph + place .n * place .w ≤ length (now part)) × (place .n ≤ 64 * place .w) ⌝ }
+    ensures { λ r. ⌜ Tested place (now (cls .entry)) (now (part .entry)) (now (part .exit)) r ⌝ }
 {
-    if cls.len() != n {
+    if cls.len() != place.n {
         return false;
     }
-    if !classes::is_placed(n, k, cls) {
+    if !classes::is_placed(place.n, place.k, cls) {
         return false;
     }
-    masks::put_masks(cls, n, k, w, masks, part);
-    all_alone(part, w, masks, graph, n, k, cls)
+    masks::put_masks(part, place, place.masks, cls);
+    all_alone(part, place, cls)
 }
 
 // The class list of a choice: a part of the caller's list or of the built one.

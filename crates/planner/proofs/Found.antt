@@ -5,12 +5,16 @@ use mathlib.Core.List.{List}
 use Prim.Native.Nat.{ℕ, _≤_}
 use native.Mathlib.Omega.{arith}
 use lib.Dec.{eqb, leb}
-use lib.ListN.{drop}
 use borrow.Author.Tests.{eqb-true, eqb-false}
-use Rattle.sheet.specs.Sheet.{headerBytes, kOf, nOf, qOf, tOf, freqsAt, rulesAt, pairsAt, linksOk, freqsOk, rulesOk, pairsOk}
+use Rattle.sheet.specs.Sheet.{kOf, nOf, qOf, tOf, linkPart, freqPart, rulePart, pairPart, linksOk, freqsOk, rulesOk}
+use Rattle.sheet.specs.Sheet.{pairsOk}
 use Rattle.sheet.specs.Refusal.{formOk, linkCountOk, countsOk, offsetsOk, unless, passing, sectionCause, refusal}
-use Rattle.planner.specs.Outcome.{outcome, callRefusal, settingCause, settingOk, listOk, workWords}
-use Rattle.planner.proofs.Demands.{demand1}
+use Rattle.rules.specs.Job.{Job}
+use Rattle.setting.specs.Setting.{Setting, settingOk}
+use Rattle.work_words.specs.Layout.{workWords}
+use Rattle.work_words.specs.Classes.{listOk}
+use Rattle.planner.specs.Outcome.{outcome, callRefusal, settingCause}
+use Rattle.planner.proofs.Outcomes.{outcome-refused}
 
 passing-most : (b : Bool) (c m : ℕ) (after : Unit {0} → ℕ) → c ≤ m → after tt ≤ m → passing b c after ≤ m
 passing-most true c m after h g = g
@@ -21,13 +25,13 @@ unfolding unless
 unless-most true c m h = omega arith
 unless-most false c m h = h
 
-section-most : (s : List ℕ) (k n q t : ℕ) → sectionCause s k n q t ≤ 12
+section-most : (s : List ℕ) → sectionCause s ≤ 12
 unfolding sectionCause
-section-most s k n q t =
-    passing-most (linksOk (drop headerBytes s) k n) 5 12 _ (omega arith)
-    (passing-most (freqsOk (drop headerBytes s) (drop (freqsAt k) s) k) 6 12 _ (omega arith)
-    (passing-most (rulesOk (drop (rulesAt k n) s) k q t) 7 12 _ (omega arith)
-    (unless-most (pairsOk (drop headerBytes s) (drop (rulesAt k n) s) (drop (pairsAt k n q) s) q) 8 12 (omega arith))))
+section-most s =
+    passing-most (linksOk (linkPart s) (kOf s) (nOf s)) 5 12 _ (omega arith)
+    (passing-most (freqsOk (linkPart s) (freqPart s) (kOf s)) 6 12 _ (omega arith)
+    (passing-most (rulesOk (rulePart s) (kOf s) (qOf s) (tOf s)) 7 12 _ (omega arith)
+    (unless-most (pairsOk (linkPart s) (rulePart s) (pairPart s) (qOf s)) 8 12 (omega arith))))
 
 refusal-most : (s : List ℕ) → refusal s ≤ 12
 unfolding refusal
@@ -35,23 +39,23 @@ refusal-most s =
     passing-most (formOk s) 1 12 _ (omega arith)
     (passing-most (linkCountOk s) 2 12 _ (omega arith)
     (passing-most (countsOk s) 3 12 _ (omega arith)
-    (passing-most (offsetsOk s) 4 12 _ (omega arith) (section-most s (kOf s) (nOf s) (qOf s) (tOf s)))))
+    (passing-most (offsetsOk s) 4 12 _ (omega arith) (section-most s))))
 
-pub cause-most : (s : List ℕ) (filter choice limit : ℕ) (callers : List ℕ) (m w : ℕ) → callRefusal s filter choice limit callers m w ≤ 12
-unfolding callRefusal settingCause
-cause-most s filter choice limit callers m w =
-    passing-most (eqb (refusal s) 0) (refusal s) 12 _ (refusal-most s)
-    (passing-most (settingOk filter choice limit) 9 12 _ (omega arith)
-    (passing-most (leb (kOf s) m) 10 12 _ (omega arith)
-    (passing-most (leb workWords w) 11 12 _ (omega arith)
-    (unless-most (listOk s choice callers) 12 12 (omega arith)))))
+module _ (job : Job) (x : Setting) (m w : ℕ) where
+  pub cause-most : callRefusal job x m w ≤ 12
+  unfolding callRefusal settingCause
+  cause-most =
+      passing-most (eqb (refusal (job .sheet)) 0) (refusal (job .sheet)) 12 _ (refusal-most (job .sheet))
+      (passing-most (settingOk x) 9 12 _ (omega arith)
+      (passing-most (leb (kOf (job .sheet)) m) 10 12 _ (omega arith)
+      (passing-most (leb workWords w) 11 12 _ (omega arith)
+      (unless-most (listOk job x) 12 12 (omega arith)))))
 
-pub found-accepted : (s : List ℕ) (filter choice limit : ℕ) (callers : List ℕ) (m w : ℕ) → outcome s filter choice limit callers m w .answer ≡ 100
-    → callRefusal s filter choice limit callers m w ≡ 0
-found-accepted s filter choice limit callers m w e = go (eqb (callRefusal s filter choice limit callers m w) 0) refl
-  where
-    go : (b : Bool) → eqb (callRefusal s filter choice limit callers m w) 0 ≡ b → callRefusal s filter choice limit callers m w ≡ 0
-    go true q = eqb-true _ 0 q
-    go false q =
-        let r = ap (λ x. x .answer) (demand1 .refused s filter choice limit callers m w (eqb-false _ 0 q)) in
-        absurd (omega (arith, cause-most s filter choice limit callers m w))
+  pub found-accepted : outcome job x m w .answer ≡ 100 → callRefusal job x m w ≡ 0
+  found-accepted e = go (eqb (callRefusal job x m w) 0) refl
+    where
+      go : (b : Bool) → eqb (callRefusal job x m w) 0 ≡ b → callRefusal job x m w ≡ 0
+      go true q = eqb-true _ 0 q
+      go false q =
+          let r = ap (λ y. y .answer) (outcome-refused job x m w (eqb-false _ 0 q)) in
+          absurd (omega (arith, cause-most))

@@ -1,11 +1,4 @@
-pub mod Bounds
-pub mod Zeros
-pub mod Links
-pub mod Sections
-pub mod Tellings
 pub mod Accepted
-pub mod Answers
-pub mod Demands
-pub mod Found
-pub mod CallDemands
 pub mod Outcomes
+pub mod Found
+pub mod Tellings

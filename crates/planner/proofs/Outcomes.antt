@@ -1,70 +1,106 @@
--- The outcome of a call, cause by cause, and the outcome of an accepted call by the sheet's sections.
+-- The outcome of a call, cause by cause, and of an accepted call.
 use mathlib.Core.Path.{_≡_, refl, sym, ap, subst, _∙_}
-use mathlib.Core.Bool.{Bool, true, false, not, _||_}
+use mathlib.Core.Bool.{Bool, true, false}
 use mathlib.Core.List.{List}
 use Prim.Native.Nat.{ℕ, _≤_, _<_}
 use native.Mathlib.Omega.{arith}
-use lib.Dec.{eqb, leb}
-use borrow.Author.Tests.{eq-eqb, ne-eqb, le-leb, lt-leb}
-use Rattle.sets.specs.Sets.{whole}
-use Rattle.sheet.specs.Sheet.{kOf, nOf, qOf, linkPart, freqPart, rulePart, pairPart}
-use Rattle.sheet.specs.Refusal.{refusal, passing, unless}
-use Rattle.graph.specs.Graph.{layer}
-use Rattle.search.specs.Limit.{Answer, plan, none, stopped, answer}
-use Rattle.planner.specs.Outcome.{Outcome, workWords, settingOk, listOk, settingCause, callRefusal, classesOf, treeOf, planCells, told, refused, unlessRefused, outcome}
-use Rattle.planner.specs.Call.{zeroCells, cellBy, cellsBy}
-use Rattle.planner.specs.Planned.{verdictNumber, Gives, sectionTold, sectionOutcome, sheetOutcome}
+use lib.ListN.{length}
+use borrow.Author.Tests.{ne-eqb, le-leb, lt-leb}
+use Rattle.sheet.specs.Sheet.{kOf}
+use Rattle.sheet.specs.Refusal.{numberOf, refusal, unless}
+use Rattle.sheet.specs.declared.Cause.{Cause}
+use Rattle.sheet.specs.declared.Reading.{Reading}
+use Rattle.sheet.specs.declared.Reading.the-variants.{Refused}
+use Rattle.sheet.proofs.Causes.{cause-some}
+use Rattle.rules.specs.Job.{Job, jobOf}
+use Rattle.search.specs.Limit.{answer}
+use Rattle.zeros.specs.Zeros.{zeros}
+use Rattle.setting.specs.Setting.{Setting, settingOk}
+use Rattle.work_words.specs.Layout.{workWords}
+use Rattle.work_words.specs.Classes.{listOk}
+use Rattle.planner.specs.Outcome.{Outcome, settingCause, callRefusal, treeOf, outcomeOf, refused, unlessRefused}
+use Rattle.planner.specs.Outcome.{outcome}
+use Rattle.planner.specs.Planned.{verdictNumber, Gives, Ready, gave}
 use Rattle.planner.specs.declared.Planned.{Planned}
 use Rattle.planner.specs.declared.Verdict.{Verdict}
-use Rattle.planner.proofs.Demands.{demand1}
+use Rattle.planner.specs.declared.Verdict.the-variants.{BadSheet}
 
-module _ (s : List ℕ) (filter choice limit : ℕ) (callers : List ℕ) (m w : ℕ) where
+-- what was given is the outcome
+pub gave-outcome : {o : Outcome} {r : Planned} {cells : List ℕ} → Gives o r cells → o ≡ gave r cells
+gave-outcome g = sym (λ i. record { answer = g .answer i; nodes = g .nodes i; cells = g .cells i })
+
+module _ (job : Job) (x : Setting) (m w : ℕ) where
   -- causes 1 to 8
-  pub sheet-cause : (refusal s ≡ 0 → ⊥) → callRefusal s filter choice limit callers m w ≡ refusal s
+  pub sheet-cause : (refusal (job .sheet) ≡ 0 → ⊥) → callRefusal job x m w ≡ refusal (job .sheet)
   unfolding callRefusal
-  sheet-cause ne = rw (ne-eqb (refusal s) 0 ne) refl
+  sheet-cause ne = rw (ne-eqb (refusal (job .sheet)) 0 ne) refl
 
-  setting-cause : refusal s ≡ 0 → callRefusal s filter choice limit callers m w ≡ settingCause s filter choice limit callers m w
+  setting-cause : refusal (job .sheet) ≡ 0 → callRefusal job x m w ≡ settingCause job x m w
   unfolding callRefusal
   setting-cause e = rw e refl
 
-  pub cause-9 : refusal s ≡ 0 → settingOk filter choice limit ≡ false → callRefusal s filter choice limit callers m w ≡ 9
+  pub cause-9 : refusal (job .sheet) ≡ 0 → settingOk x ≡ false → callRefusal job x m w ≡ 9
   unfolding settingCause
   cause-9 e f = setting-cause e ∙ rw f refl
 
-  pub cause-10 : refusal s ≡ 0 → settingOk filter choice limit ≡ true → m < kOf s → callRefusal s filter choice limit callers m w ≡ 10
+  pub cause-10 : refusal (job .sheet) ≡ 0 → settingOk x ≡ true → m < kOf (job .sheet) → callRefusal job x m w ≡ 10
   unfolding settingCause
-  cause-10 e f g = setting-cause e ∙ rw (f, lt-leb (kOf s) m g) refl
+  cause-10 e f g = setting-cause e ∙ rw (f, lt-leb (kOf (job .sheet)) m g) refl
 
-  pub cause-11 : refusal s ≡ 0 → settingOk filter choice limit ≡ true → kOf s ≤ m → w < workWords → callRefusal s filter choice limit callers m w ≡ 11
+  pub cause-11 : refusal (job .sheet) ≡ 0 → settingOk x ≡ true → kOf (job .sheet) ≤ m → w < workWords
+      → callRefusal job x m w ≡ 11
   unfolding settingCause
-  cause-11 e f g h = setting-cause e ∙ rw (f, le-leb (kOf s) m g, lt-leb workWords w h) refl
+  cause-11 e f g h = setting-cause e ∙ rw (f, le-leb (kOf (job .sheet)) m g, lt-leb workWords w h) refl
+
+  -- past cause 11 the caller's list decides
+  pub cause-12 : refusal (job .sheet) ≡ 0 → settingOk x ≡ true → kOf (job .sheet) ≤ m → workWords ≤ w
+      → callRefusal job x m w ≡ unless (listOk job x) 12
+  unfolding settingCause
+  cause-12 e f g h = setting-cause e ∙ rw (f, le-leb (kOf (job .sheet)) m g, le-leb workWords w h) refl
+
+  pub outcome-refused : (callRefusal job x m w ≡ 0 → ⊥) → outcome job x m w ≡ refused (callRefusal job x m w) m
+  unfolding outcome
+  outcome-refused ne =
+      ap (λ b. elim b [
+        | true ↦ outcomeOf job m (answer (x .limit) (treeOf job x))
+        | false ↦ refused
+            (callRefusal job x m w) m
+      ])
+      (ne-eqb (callRefusal job x m w) 0 ne)
+
+  pub outcome-accepted : callRefusal job x m w ≡ 0
+      → outcome job x m w ≡ outcomeOf job m (answer (x .limit) (treeOf job x))
+  unfolding outcome
+  outcome-accepted e = ap (λ c. unlessRefused c m (λ _. outcomeOf job m (answer (x .limit) (treeOf job x)))) e
 
   -- a refusal: its number, 0 nodes and zero cells
-  pub gives-refused : (v : Verdict) (c : ℕ) {r : Planned} {cells : List ℕ} → callRefusal s filter choice limit callers m w ≡ c → 0 < c → verdictNumber v ≡ c
-      → r ≡ record { verdict = v; nodes = 0 } → cells ≡ zeroCells m → Gives (outcome s filter choice limit callers m w) r cells
-  unfolding zeroCells
-  gives-refused v c {r} {cells} e h q x z =
-      subst (λ o. Gives o r cells) (sym (demand1 .refused s filter choice limit callers m w (λ i. omega arith)))
-      (record { answer = ap (λ y. verdictNumber (y .verdict)) x ∙ q ∙ sym e; nodes = ap (λ y. y .nodes) x; cells = z })
+  pub gives-refused : (v : Verdict) (c : ℕ) {p : Planned} {cells : List ℕ} → callRefusal job x m w ≡ c → 0 < c
+      → verdictNumber v ≡ c → p ≡ record { verdict = v; nodes = 0 } → cells ≡ zeros m
+      → Gives (outcome job x m w) p cells
+  gives-refused v c {p} {cells} e h q y z =
+      subst (λ o. Gives o p cells) (sym (outcome-refused (λ i. omega arith)))
+      (record { answer = ap (λ y. verdictNumber (y .verdict)) y ∙ q ∙ sym e; nodes = ap (λ y. y .nodes) y; cells = z })
 
-  -- the planner's cells are those of the sections
-  told-sections : (a : Answer) → told s m a ≡ sectionTold (linkPart s) (freqPart s) (kOf s) m a
-  unfolding planCells cellsBy cellBy zeroCells
-  told-sections (plan p t) = refl
-  told-sections (none t) = refl
-  told-sections (stopped t) = refl
+  -- the reader has refused the sheet
+  pub gives-sheet-refused : {reading : Reading} {cause : Cause} {p : Planned} {cells : List ℕ}
+      → numberOf reading ≡ refusal (job .sheet) → reading ≡ Refused cause
+      → p ≡ record { verdict = BadSheet cause; nodes = 0 }
+      → cells ≡ zeros m → Gives (outcome job x m w) p cells
+  gives-sheet-refused {cause = cause} e t y z =
+      let n = sym (ap numberOf t) ∙ e in
+      let l = cause-some cause in
+      gives-refused (BadSheet cause) (refusal (job .sheet)) (sheet-cause (λ i. omega arith)) (omega arith) n y z
 
-  -- an accepted call, up to the caller's list
-  pub outcome-sections : refusal s ≡ 0 → settingOk filter choice limit ≡ true → kOf s ≤ m → workWords ≤ w
-      → outcome s filter choice limit callers m w ≡ sheetOutcome s filter choice limit callers m
-  unfolding outcome settingCause listOk sectionOutcome treeOf classesOf
-  outcome-sections e f g h = ap (λ r. unlessRefused r m (λ _. told s m (answer limit (treeOf s filter choice callers)))) causes ∙ go (listOk s choice callers)
-    where
-      causes : callRefusal s filter choice limit callers m w ≡ unless (listOk s choice callers) 12
-      causes = setting-cause e ∙ rw (f, le-leb (kOf s) m g, le-leb workWords w h) refl
+-- a call that has passed causes 1 to 11, up to the caller's list
+module _ {s : List ℕ} {x : Setting} {built chosen : ℕ} {cells : List ℕ} {w : ℕ} (R : Ready s x built chosen cells w)
+  where
+    pub ready-cause : callRefusal (jobOf s) x (length cells) w ≡ unless (listOk (jobOf s) x) 12
+    ready-cause = cause-12 (jobOf s) x (length cells) w (R .sheet) (R .setting) (R .enough) (R .words)
 
-      go : (b : Bool) → unlessRefused (unless b 12) m (λ _. told s m (answer limit (treeOf s filter choice callers)))
-          ≡ elim b [ true ↦ sectionTold (linkPart s) (freqPart s) (kOf s) m (answer limit (treeOf s filter choice callers)) | false ↦ refused 12 m ]
-      go true = unfold unless in told-sections (answer limit (treeOf s filter choice callers))
-      go false = unfold unless in refl
+    pub ready-accepted : listOk (jobOf s) x ≡ true → callRefusal (jobOf s) x (length cells) w ≡ 0
+    unfolding unless
+    ready-accepted e = ready-cause ∙ rw e refl
+
+    pub ready-refused : listOk (jobOf s) x ≡ false → callRefusal (jobOf s) x (length cells) w ≡ 12
+    unfolding unless
+    ready-refused e = ready-cause ∙ rw e refl

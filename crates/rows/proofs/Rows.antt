@@ -1,4 +1,5 @@
--- Laws of sets that lie in rows of one list of words: where a row lies, what a write leaves as it was, and a loop that writes a row.
+-- Laws of sets that lie in rows of one list of words: where a row lies, what a write leaves as it was, and a loop that
+-- writes a row.
 use Prim.Native.Nat.{ℕ, suc, _+_, _-_, _*_, _/_, _%_, _^_, _≤_, _<_}
 use mathlib.Core.Bool.{true, false}
 use mathlib.Core.List.{List}
@@ -12,7 +13,8 @@ use lib.Seq.{getD-set-same, getD-set-other, getD-take, getD-drop, ext-getD}
 use Rattle.sets.specs.Sets.{Set, _∩_, _∪_, _∖_}
 use Rattle.sets.proofs.Tests.{clash}
 use Rattle.vset.specs.Words.{has}
-use Rattle.vset.proofs.Words.{Ends, Word, word-has, word-meet, word-join, word-cut, row-keeps, ends-has, ends-wide, ends-meet, ends-join, ends-cut}
+use Rattle.vset.proofs.Words.{Ends, Word, word-has, word-meet, word-join, word-cut, row-keeps, ends-has, ends-wide}
+use Rattle.vset.proofs.Words.{ends-meet, ends-join, ends-cut}
 use Rattle.rows.specs.Rows.{setAt, Outside, Reads, Put}
 
 -- row v of n rows lies inside: the one place with a product of two unknowns
@@ -30,7 +32,8 @@ outside-none lo hi p = record { len = refl; same = λ j h. refl }
 pub outside-then : {lo hi : ℕ} {p q r : List ℕ} → Outside lo hi p q → Outside lo hi q r → Outside lo hi p r
 outside-then x y = record { len = y .len ∙ x .len; same = λ j h. y .same j h ∙ x .same j h }
 
-pub outside-wide : {lo hi : ℕ} {p q : List ℕ} (lo′ hi′ : ℕ) → lo′ ≤ lo → hi ≤ hi′ → Outside lo hi p q → Outside lo′ hi′ p q
+pub outside-wide : {lo hi : ℕ} {p q : List ℕ} (lo′ hi′ : ℕ) → lo′ ≤ lo → hi ≤ hi′ → Outside lo hi p q
+    → Outside lo′ hi′ p q
 outside-wide lo′ hi′ a b x = record { len = x .len; same = λ j h. x .same j (λ l r. h (omega arith) (omega arith)) }
 
 module _ {lo hi : ℕ} {p q : List ℕ} (x : Outside lo hi p q) (w a : ℕ) where
@@ -67,13 +70,22 @@ row-member p w at v h = go (decLt v (64 * w))
     go (no l) = clash (setAt p w at v) h (set-past p w at v (omega arith))
 
 -- a row inside a wider row
-pub inner-row : (p : List ℕ) (w wide at a v : ℕ) → a + w ≤ wide → v < 64 * w → setAt p w (at + a) v ≡ setAt p wide at (64 * a + v)
+pub inner-row : (p : List ℕ) (w wide at a v : ℕ) → a + w ≤ wide → v < 64 * w
+    → setAt p w (at + a) v ≡ setAt p wide at (64 * a + v)
 unfolding setAt has
 inner-row p w wide at a v h l =
     let d : (64 * a + v) / 64 ≡ a + v / 64 = omega arith in
     let m : (64 * a + v) % 64 ≡ v % 64 = omega arith in
     let q : at + a + v / 64 ≡ at + (a + v / 64) = omega arith in
-    rw (d, m, getD-take w (drop (at + a) p) (v / 64) 0 (omega arith), getD-drop, getD-take wide (drop at p) (a + v / 64) 0 (omega arith), getD-drop, q)
+    rw (
+      d,
+      m,
+      getD-take w (drop (at + a) p) (v / 64) 0 (omega arith),
+      getD-drop,
+      getD-take wide (drop at p) (a + v / 64) 0 (omega arith),
+      getD-drop,
+      q,
+    )
 
 pub word-at-row : (p : List ℕ) (w a i : ℕ) → i < w → Word (setAt p w a) i (getD p (a + i) 0)
 unfolding setAt
@@ -89,14 +101,16 @@ pub record Filling (S : Set) (w to : ℕ) (p₀ p : List ℕ) (i : ℕ) : Type 0
 pub filling-none : (S : Set) (w to : ℕ) (p : List ℕ) → Filling S w to p p 0
 filling-none S w to p = record { upto = omega arith; past = λ j h. absurd (omega arith); rest = outside-none _ _ p }
 
-pub filling-more : {S : Set} {w to : ℕ} {p₀ p : List ℕ} {i : ℕ} (x : ℕ) → Filling S w to p₀ p i → i < w → to + w ≤ length p₀ → Word S i x
+pub filling-more : {S : Set} {w to : ℕ} {p₀ p : List ℕ} {i : ℕ} (x : ℕ) → Filling S w to p₀ p i → i < w
+    → to + w ≤ length p₀ → Word S i x
     → Filling S w to p₀ (set p (to + i) x) (i + 1)
 filling-more {S} {w} {to} {p₀} {p} {i} x F h fits W = record {
   upto = omega arith;
   past = λ j l. go j l (ℕ-discrete j i);
   rest = record {
     len = simp length-set (F .rest .len);
-    same = λ j l. getD-set-other p (to + i) j x 0 (λ e. l (omega arith) (omega arith)) ∙ F .rest .same j (λ a b. l a (omega arith));
+    same = λ j l. getD-set-other p (to + i) j x 0 (λ e. l (omega arith) (omega arith))
+        ∙ F .rest .same j (λ a b. l a (omega arith));
   };
 }
   where
@@ -105,7 +119,8 @@ filling-more {S} {w} {to} {p₀} {p} {i} x F h fits W = record {
     go j l (no n) = rw (getD-set-other p (to + i) (to + j) x 0 (λ e. n (omega arith))) (F .past j (omega arith))
 
 -- a word that is read and not written yet
-pub filling-read : {S : Set} {w to : ℕ} {p₀ p : List ℕ} {i : ℕ} (a : ℕ) → Filling S w to p₀ p i → i < w → Reads w to a (length p₀)
+pub filling-read : {S : Set} {w to : ℕ} {p₀ p : List ℕ} {i : ℕ} (a : ℕ) → Filling S w to p₀ p i → i < w
+    → Reads w to a (length p₀)
     → Word (setAt p₀ w a) i (getD p (a + i) 0)
 filling-read {S} {w} {to} {p₀} {p} {i} a F h R = rw (F .rest .same (a + i) (go (decLt a to))) (word-at-row p₀ w a i h)
   where
@@ -113,7 +128,8 @@ filling-read {S} {w} {to} {p₀} {p} {i} a F h R = rw (F .rest .same (a + i) (go
     go (yes l) b c = let r = R .clear l in omega arith
     go (no n) b c = omega arith
 
-pub filling-all : {S : Set} {w to : ℕ} {p₀ p : List ℕ} {i : ℕ} → Filling S w to p₀ p i → w ≤ i → to + w ≤ length p₀ → Ends S (64 * w) → Put S w to p₀ p
+pub filling-all : {S : Set} {w to : ℕ} {p₀ p : List ℕ} {i : ℕ} → Filling S w to p₀ p i → w ≤ i → to + w ≤ length p₀
+    → Ends S (64 * w) → Put S w to p₀ p
 unfolding setAt
 filling-all {S} {w} {to} {p₀} {p} {i} F h fits E =
     let n : length (take w (drop to p)) ≡ w = simp (length-take, length-drop) (omega (arith, F .rest .len)) in
@@ -141,11 +157,15 @@ cutting = record { word = λ S T i x y p q b. word-cut p q b; ends = λ S T n p 
 
 -- the loop `while i < w { part[to + i] = g(part[a + i], part[b + i]); i += 1; }`: one word more, all words
 module _ {f : Set → Set → Set} {g : ℕ → ℕ → ℕ} (G : Wordwise f g) {w to a b : ℕ} {p₀ p : List ℕ} {i : ℕ}
-    (F : Filling (f (setAt p₀ w a) (setAt p₀ w b)) w to p₀ p i) (pre : (to + w ≤ length p₀) × (Reads w to a (length p₀) × Reads w to b (length p₀))) where
+    (F : Filling (f (setAt p₀ w a) (setAt p₀ w b)) w to p₀ p i)
+    (pre : (to + w ≤ length p₀) × (Reads w to a (length p₀) × Reads w to b (length p₀))) where
   pub wordwise-more : i < w → getD p (b + i) 0 < 2 ^ 64
-      → Filling (f (setAt p₀ w a) (setAt p₀ w b)) w to p₀ (set p (to + i) (g (getD p (a + i) 0) (getD p (b + i) 0))) (i + 1)
+      → Filling (f (setAt p₀ w a) (setAt p₀ w b)) w to p₀ (set p (to + i) (g (getD p (a + i) 0) (getD p (b + i) 0)))
+      (i + 1)
   wordwise-more h fits =
-      filling-more _ F h (pre .0) (G .word (setAt p₀ w a) (setAt p₀ w b) i _ _ (filling-read a F h (pre .1 .0)) (filling-read b F h (pre .1 .1)) fits)
+      filling-more _ F h (pre .0) (G .word (setAt p₀ w a) (setAt p₀ w b) i _ _ (filling-read a F h (pre .1 .0))
+      (filling-read b F h (pre .1 .1)) fits)
 
   pub wordwise-all : w ≤ i → Put (f (setAt p₀ w a) (setAt p₀ w b)) w to p₀ p
-  wordwise-all h = filling-all F h (pre .0) (G .ends (setAt p₀ w a) (setAt p₀ w b) (64 * w) (ends-set p₀ w a) (ends-set p₀ w b))
+  wordwise-all h = filling-all F h (pre .0) (G .ends (setAt p₀ w a) (setAt p₀ w b) (64 * w) (ends-set p₀ w a)
+      (ends-set p₀ w b))

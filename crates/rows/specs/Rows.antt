@@ -1,4 +1,5 @@
--- Rows inside one part of the work words: "Sets of vertices are 64-bit words, one bit a vertex", a set in w words of it from a place on.
+-- Rows inside one part of the work words: "Sets of vertices are 64-bit words, one bit a vertex", a set in w words of it
+-- from a place on.
 use mathlib.Core.Path.{_≡_}
 use mathlib.Core.List.{List}
 use Prim.Native.Nat.{ℕ, _+_, _*_, _≤_, _<_}

@@ -1,5 +1,6 @@
 // Rows of w words inside one part of the work words. A row is named by the place of its first word.
-// The contracts cite `setAt` of specs/Rows.antt, the set in the row at a place, and `Put`: a row was written, and no other word.
+// The contracts cite `setAt` of specs/Rows.antt, the set in the row at a place, and `Put`: a row was written, and no
+// other word.
 ghost use mathlib.Core.Path.{_≡_};
 ghost use Prim.Native.Nat.{_+_, _*_, _^_, _<_, _≤_};
 ghost use lib.ListN.{length};
@@ -20,7 +21,8 @@ pub fn row_at(at: usize, w: usize, v: usize, n: usize) -> usize
 pub fn meet(part: &mut [u64], w: usize, to: usize, a: usize, b: usize)
     requires { ⌜ to + w ≤ length (now part) ⌝ }
     requires { ⌜ Reads w to a (length (now part)) × Reads w to b (length (now part)) ⌝ }
-    ensures { λ r. ⌜ Put (setAt (now (part .entry)) w a ∩ setAt (now (part .entry)) w b) w to (now (part .entry)) (now (part .exit)) ⌝ }
+    ensures { λ r. ⌜ Put (setAt (now (part .entry)) w a ∩ setAt (now (part .entry)) w b) w to (now (part .entry))
+        (now (part .exit)) ⌝ }
 {
     let mut i = 0;
     while i < w {
@@ -34,7 +36,8 @@ pub fn meet(part: &mut [u64], w: usize, to: usize, a: usize, b: usize)
 pub fn join(part: &mut [u64], w: usize, to: usize, a: usize, b: usize)
     requires { ⌜ to + w ≤ length (now part) ⌝ }
     requires { ⌜ Reads w to a (length (now part)) × Reads w to b (length (now part)) ⌝ }
-    ensures { λ r. ⌜ Put (setAt (now (part .entry)) w a ∪ setAt (now (part .entry)) w b) w to (now (part .entry)) (now (part .exit)) ⌝ }
+    ensures { λ r. ⌜ Put (setAt (now (part .entry)) w a ∪ setAt (now (part .entry)) w b) w to (now (part .entry))
+        (now (part .exit)) ⌝ }
 {
     let mut i = 0;
     while i < w {
@@ -48,7 +51,8 @@ pub fn join(part: &mut [u64], w: usize, to: usize, a: usize, b: usize)
 pub fn cut(part: &mut [u64], w: usize, to: usize, a: usize, b: usize)
     requires { ⌜ to + w ≤ length (now part) ⌝ }
     requires { ⌜ Reads w to a (length (now part)) × Reads w to b (length (now part)) ⌝ }
-    ensures { λ r. ⌜ Put (setAt (now (part .entry)) w a ∖ setAt (now (part .entry)) w b) w to (now (part .entry)) (now (part .exit)) ⌝ }
+    ensures { λ r. ⌜ Put (setAt (now (part .entry)) w a ∖ setAt (now (part .entry)) w b) w to (now (part .entry))
+        (now (part .exit)) ⌝ }
 {
     let mut i = 0;
     while i < w {

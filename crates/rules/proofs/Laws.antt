@@ -1,6 +1,6 @@
 -- Laws of layers, of the sections of an accepted sheet, of the pair test and of the vertex of a frequency.
 use Prim.Native.Nat.{ℕ, zero, suc, _+_, _*_, _≤_, _<_}
-use mathlib.Core.Path.{_≡_, sym, _∙_}
+use mathlib.Core.Path.{_≡_, ap, sym, _∙_}
 use mathlib.Core.List.{List}
 use mathlib.Core.Bool.{Bool, true, _&&_}
 use native.Mathlib.Numerals.{add-one}
@@ -11,16 +11,24 @@ use borrow.Author.Tests.{eqb-true, ltb-true, leb-true, leb-false, eq-eqb, ne-eqb
 use Rattle.sets.specs.Below.{all, sumTo}
 use Rattle.sets.proofs.Tests.{bool, iff, and-l, and-r, and-in, below}
 use Rattle.sets.proofs.Below.{all-out, first-any, sum-in}
+use Rattle.sheet_rows.specs.Rows.{HasRow, linkBytes, freqBytes, ruleBytes, pairBytes}
 use Rattle.sheet_rows.specs.Rows.{linkFirst, linkCount, freq, ruleA, ruleB, ruleKind, ruleCount, ruleValue}
 use Rattle.sheet.specs.Sheet.{linksOk, listed}
 use Rattle.sheet.specs.Sheet.{kOf, nOf, qOf, tOf, linkPart, freqPart, rulePart, pairPart}
 use Rattle.sheet.specs.Accepted.{Accepted}
+use Rattle.sheet.specs.Refusal.{causeNumber, numberOf, refusal}
+use Rattle.sheet.specs.declared.Cause.{Cause}
+use Rattle.sheet.specs.declared.Reading.{Reading}
+use Rattle.sheet.specs.declared.Reading.the-variants.{Refused}
+use Rattle.sheet.proofs.Causes.{cause-some}
+use Rattle.rules.specs.Job.{jobOf}
 use Rattle.sheet.proofs.Links.{link-first, link-sum, link-in}
 use Rattle.sheet.proofs.Rules.{rule-in}
 use Rattle.rules.specs.Layers.{layerOf, InLink}
-use Rattle.rules.specs.Parts.{Parts, RowAt}
+use Rattle.rules.specs.Parts.{LinkRows, Parts}
 use Rattle.rules.specs.Pairs.{agree}
-use Rattle.rules.specs.Plans.{placeOf, hasFreq, vertexOf, inLists}
+use Rattle.rules.specs.Plans.{cellsOf, checked, placeOf, hasFreq, vertexOf, inLists}
+use Rattle.rules.specs.Asked.{RowAt, Taken, inList}
 
 -- the layers of an accepted link section
 
@@ -29,7 +37,10 @@ module _ (p : List ℕ) (k n : ℕ) (ok : linksOk p k n ≡ true) where
   unfolding layerOf
   layer-is zero l v g h i = absurd (omega arith)
   layer-is (suc m) l v g h i = below l m h
-      (λ b. let x : v < linkFirst p m = omega (arith, sum-in m l (linkCount p) b, link-first p k n ok l (omega arith), link-first p k n ok m (omega arith), i .high) in
+      (λ b.
+      let d = link-first p k n ok l (omega arith) in
+      let e = link-first p k n ok m (omega arith) in
+      let x : v < linkFirst p m = omega (arith, sum-in m l (linkCount p) b, d, e, i .high) in
       rw (lt-leb (linkFirst p m) v x) (layer-is m l v (omega arith) b i))
       (λ e. let x : linkFirst p m ≤ v = rw e at (i .low) in rw (le-leb (linkFirst p m) v x) (sym e))
 
@@ -37,8 +48,13 @@ module _ (p : List ℕ) (k n : ℕ) (ok : linksOk p k n ≡ true) where
   unfolding layerOf sumTo
   layer-at zero v g h = absurd (omega arith)
   layer-at (suc m) v g h = bool (leb (linkFirst p m) v)
-      (λ e. let x = leb-true (linkFirst p m) v e in rw e (omega arith, record { low = x; high = omega (arith, link-first p k n ok m (omega arith)) }))
-      (λ e. let x = leb-false (linkFirst p m) v e in let r = layer-at m v (omega arith) (omega (arith, link-first p k n ok m (omega arith))) in rw e (omega (arith, r .0), r .1))
+      (λ e.
+      let x = leb-true (linkFirst p m) v e in
+      rw e (omega arith, record { low = x; high = omega (arith, link-first p k n ok m (omega arith)) }))
+      (λ e.
+      let x = leb-false (linkFirst p m) v e in
+      let r = layer-at m v (omega arith) (omega (arith, link-first p k n ok m (omega arith))) in
+      rw e (omega (arith, r .0), r .1))
 
   -- a vertex of link l is in layer l, and a vertex is in the link of its layer
   pub layer-of : (l v : ℕ) → l < k → InLink p l v → layerOf p k v ≡ l
@@ -52,13 +68,17 @@ module _ (p : List ℕ) (k n : ℕ) (ok : linksOk p k n ≡ true) where
   in-link-lt l v h i = omega (arith, link-in p k n ok l h, i .high)
 
   -- v stands from the first vertex of link l to its end just where l is its layer
-  pub link-test : (l v : ℕ) → l < k → v < n → leb (linkFirst p l) v && ltb v (linkFirst p l + linkCount p l) ≡ eqb l (layerOf p k v)
+  pub link-test : (l v : ℕ) → l < k → v < n
+      → leb (linkFirst p l) v && ltb v (linkFirst p l + linkCount p l) ≡ eqb l (layerOf p k v)
   link-test l v h b = iff _ _
       (λ e. eq-eqb l (layerOf p k v) (sym (layer-of l v h (record {
         low = leb-true (linkFirst p l) v (and-l (leb (linkFirst p l) v) _ e);
         high = ltb-true v (linkFirst p l + linkCount p l) (and-r (leb (linkFirst p l) v) _ e);
       }))))
-      (λ e. let q = eqb-true l (layerOf p k v) e in let i : InLink p l v = rw q (layer-in v b .1) in and-in (le-leb _ _ (i .low)) (lt-ltb _ _ (i .high)))
+      (λ e.
+      let q = eqb-true l (layerOf p k v) e in
+      let i : InLink p l v = rw q (layer-in v b .1) in
+      and-in (le-leb _ _ (i .low)) (lt-ltb _ _ (i .high)))
 
 -- the steps of the loop for the layer
 pub layer-hit : (p : List ℕ) (l m v : ℕ) → l ≡ m + 1 → linkFirst p m ≤ v → layerOf p l v ≡ m
@@ -71,7 +91,8 @@ layer-down p l m v q h = rw (q, add-one, lt-leb (linkFirst p m) v h)
 
 -- the sections of an accepted sheet
 
-pub parts-of : (s : List ℕ) → Accepted s → Parts (linkPart s) (freqPart s) (rulePart s) (pairPart s) (kOf s) (nOf s) (qOf s) (tOf s)
+pub parts-of : (s : List ℕ) → Accepted s
+    → Parts (linkPart s) (freqPart s) (rulePart s) (pairPart s) (kOf s) (nOf s) (qOf s) (tOf s)
 parts-of s a =
     record {
       k-some = a .head .k-some;
@@ -96,56 +117,71 @@ module _ {ls fs rs ps : List ℕ} {k n q t : ℕ} (P : Parts ls fs rs ps k n q t
   -- the rows of a rule's links and the row itself are there, and the links' vertices are among the n
   pub links-within : (j : ℕ) → j < q →
       (4 * ruleA rs j + 4 ≤ length ls) × (4 * ruleB rs j + 4 ≤ length ls) × (12 * j + 12 ≤ length rs) ×
-      (linkFirst ls (ruleA rs j) + linkCount ls (ruleA rs j) ≤ n) × (linkFirst ls (ruleB rs j) + linkCount ls (ruleB rs j) ≤ n)
-  links-within j b = let o = rule-links j b in
-      (omega (arith, P .link-rows), omega (arith, P .link-rows), omega (arith, P .rule-rows), link-in ls k n (P .links) (ruleA rs j) (omega arith), link-in ls k n (P .links) (ruleB rs j) (omega arith))
+      (linkFirst ls (ruleA rs j) + linkCount ls (ruleA rs j) ≤ n) ×
+      (linkFirst ls (ruleB rs j) + linkCount ls (ruleB rs j) ≤ n)
+  links-within j b =
+      let o = rule-links j b in (
+        omega (arith, P .link-rows),
+        omega (arith, P .link-rows),
+        omega (arith, P .rule-rows),
+        link-in ls k n (P .links) (ruleA rs j) (omega arith),
+        link-in ls k n (P .links) (ruleB rs j) (omega arith),
+      )
 
-  -- the row of a vertex's link is there
-  pub layer-row : (u : ℕ) → u < n → 4 * layerOf ls k u + 4 ≤ length ls
-  layer-row u h = omega (arith, layer-in ls k n (P .links) u h .0, P .link-rows)
-
-  -- a rule row of the link of u meets what the pair test asks
-  pub meets-a : (j u : ℕ) → j < q → u < n → ruleA rs j ≡ layerOf ls k u → (v : ℕ) → InLink ls (ruleB rs j) v → RowAt ls fs rs ps k n q t j u v
-  meets-a j u b h e v i = record { parts = P; among = b; inA = rw e (layer-in ls k n (P .links) u h .1); inB = i }
-
-  pub meets-b : (j u : ℕ) → j < q → u < n → ruleB rs j ≡ layerOf ls k u → (v : ℕ) → InLink ls (ruleA rs j) v → RowAt ls fs rs ps k n q t j v u
-  meets-b j u b h e v i = record { parts = P; among = b; inA = i; inB = rw e (layer-in ls k n (P .links) u h .1) }
+  -- the link rows alone
+  pub link-rows : LinkRows ls k n
+  link-rows = record { n-some = P .n-some; n-small = P .n-small; rows = P .link-rows; links = P .links }
 
 -- what the code needs of a rule row with two vertices
-pub record RowBounds (ls fs rs ps : List ℕ) (k j u v : ℕ) : Type 0 where
-  pub order : ruleA rs j < ruleB rs j
-  pub within : ruleB rs j < k
-  pub rowA : 4 * ruleA rs j + 4 ≤ length ls
-  pub rowB : 4 * ruleB rs j + 4 ≤ length ls
-  pub fromA : linkFirst ls (ruleA rs j) ≤ u
-  pub fromB : linkFirst ls (ruleB rs j) ≤ v
-  pub freqU : 4 * u + 4 ≤ length fs
-  pub freqV : 4 * v + 4 ≤ length fs
-  pub row : 12 * j + 12 ≤ length rs
-  pub pairs : ruleKind rs j ≡ 3 → 0 < ruleCount rs j → 4 * (ruleValue rs j + ruleCount rs j) ≤ length ps
+pub record RowBounds (s : List ℕ) (j u v : ℕ) : Type 0 where
+  pub rowA : HasRow linkBytes (linkPart s) (ruleA (rulePart s) j)
+  pub rowB : HasRow linkBytes (linkPart s) (ruleB (rulePart s) j)
+  pub fromA : linkFirst (linkPart s) (ruleA (rulePart s) j) ≤ u
+  pub fromB : linkFirst (linkPart s) (ruleB (rulePart s) j) ≤ v
+  pub freqU : HasRow freqBytes (freqPart s) u
+  pub freqV : HasRow freqBytes (freqPart s) v
+  pub row : HasRow ruleBytes (rulePart s) j
+  pub pairs : ruleKind (rulePart s) j ≡ 3 → 0 < ruleCount (rulePart s) j →
+      pairBytes * (ruleValue (rulePart s) j + ruleCount (rulePart s) j) ≤ length (pairPart s)
 
 listed-is : (p : List ℕ) (j : ℕ) → ruleKind p j ≡ 3 → listed p j ≡ ruleCount p j
 unfolding listed
 listed-is p j h = rw h
 
-pub row-bounds : {ls fs rs ps : List ℕ} {k n q t j u v : ℕ} → RowAt ls fs rs ps k n q t j u v → RowBounds ls fs rs ps k j u v
-row-bounds {ls} {fs} {rs} {ps} {k} {n} {q} {t} {j} {u} {v} r =
-    let P = r .parts in
-    let f = rule-in rs k q t j (P .rules) (r .among) in
-    let x = in-link-lt ls k n (P .links) (ruleA rs j) u (omega arith) (r .inA) in
-    let y = in-link-lt ls k n (P .links) (ruleB rs j) v (omega arith) (r .inB) in
+module _ {ls fs rs ps : List ℕ} {k n q t : ℕ} (P : Parts ls fs rs ps k n q t) where
+  pairs-there : (j : ℕ) → j < q → ruleKind rs j ≡ 3 → 0 < ruleCount rs j
+      → pairBytes * (ruleValue rs j + ruleCount rs j) ≤ length ps
+  pairs-there j b e o =
+      let i = listed-is rs j e in
+      let g = rule-in rs k q t j (P .rules) b .pairs (omega arith) in
+      omega (arith, P .pair-rows)
+
+  freq-there : (l v : ℕ) → l < k → InLink ls l v → HasRow freqBytes fs v
+  freq-there l v b i = let x = in-link-lt ls k n (P .links) l v b i in omega (arith, P .freq-rows)
+
+pub row-bounds : {s : List ℕ} {j u v : ℕ} → RowAt s j u v → RowBounds s j u v
+row-bounds {s} {j} {u} {v} r =
+    let P = parts-of s (r .accepted) in
+    let o = rule-links P j (r .among) in
+    let w = links-within P j (r .among) in
     record {
-      order = f .order;
-      within = f .within;
-      rowA = omega (arith, P .link-rows);
-      rowB = omega (arith, P .link-rows);
+      rowA = w .0;
+      rowB = w .1;
       fromA = r .inA .low;
       fromB = r .inB .low;
-      freqU = omega (arith, P .freq-rows);
-      freqV = omega (arith, P .freq-rows);
-      row = omega (arith, P .rule-rows, r .among);
-      pairs = λ e o. let i = listed-is rs j e in let g = f .pairs (omega arith) in omega (arith, P .pair-rows);
+      freqU = freq-there P (ruleA (rulePart s) j) u (omega arith) (r .inA);
+      freqV = freq-there P (ruleB (rulePart s) j) v (omega arith) (r .inB);
+      row = w .2;
+      pairs = pairs-there P j (r .among);
     }
+
+-- the rows of a link of an accepted sheet: its own and its frequencies'
+module _ {s : List ℕ} {l : ℕ} (a : Accepted s) (b : l < kOf s) where
+  pub link-there : HasRow linkBytes (linkPart s) l
+  link-there = omega (arith, parts-of s a .link-rows)
+
+  pub freqs-there : freqBytes * (linkFirst (linkPart s) l + linkCount (linkPart s) l) ≤ length (freqPart s)
+  freqs-there = let P = parts-of s a in omega (arith, P .freq-rows, link-in (linkPart s) (kOf s) (nOf s) (P .links) l b)
 
 -- the pair test: a rule of kind 3 does not look at the difference, and no other looks at the list
 
@@ -159,17 +195,56 @@ agree-plain kind value d l m h = rw (ne-eqb kind 3 h)
 
 -- the vertex of a frequency
 
-pub has-freq-is : (ls fs : List ℕ) (l x : ℕ) → ltb (placeOf fs (linkFirst ls l) (linkCount ls l) x) (linkCount ls l) ≡ hasFreq ls fs l x
+pub has-freq-is : (ls fs : List ℕ) (l x : ℕ)
+    → ltb (placeOf fs (linkFirst ls l) (linkCount ls l) x) (linkCount ls l) ≡ hasFreq ls fs l x
 unfolding placeOf hasFreq
 has-freq-is ls fs l x = first-any (linkCount ls l) (λ i. eqb (freq fs (linkFirst ls l + i)) x)
 
-pub has-freq-lt : (ls fs : List ℕ) (l x : ℕ) → hasFreq ls fs l x ≡ true → placeOf fs (linkFirst ls l) (linkCount ls l) x < linkCount ls l
-has-freq-lt ls fs l x h = ltb-true (placeOf fs (linkFirst ls l) (linkCount ls l) x) (linkCount ls l) (has-freq-is ls fs l x ∙ h)
+pub has-freq-lt : (ls fs : List ℕ) (l x : ℕ) → hasFreq ls fs l x ≡ true
+    → placeOf fs (linkFirst ls l) (linkCount ls l) x < linkCount ls l
+has-freq-lt ls fs l x h =
+    ltb-true (placeOf fs (linkFirst ls l) (linkCount ls l) x) (linkCount ls l) (has-freq-is ls fs l x ∙ h)
 
 pub vertex-in : (ls fs : List ℕ) (l x : ℕ) → hasFreq ls fs l x ≡ true → InLink ls l (vertexOf ls fs l x)
 unfolding vertexOf
 vertex-in ls fs l x h = record { low = omega arith; high = omega (arith, has-freq-lt ls fs l x h) }
 
-pub listed-at : (ls fs : List ℕ) (k : ℕ) (f : ℕ → ℕ) (l : ℕ) → all k (inLists ls fs f) ≡ true → l < k → hasFreq ls fs l (f l) ≡ true
+pub listed-at : (ls fs : List ℕ) (k : ℕ) (f : ℕ → ℕ) (l : ℕ) → all k (inLists ls fs f) ≡ true → l < k
+    → hasFreq ls fs l (f l) ≡ true
 unfolding inLists
 listed-at ls fs k f l h b = all-out k (inLists ls fs f) h l b
+
+-- what the code needs of a rule row and the cells taken for its links
+pub record RuleTaken (s cells : List ℕ) (j : ℕ) : Type 0 where
+  pub row : HasRow ruleBytes (rulePart s) j
+  pub lowA : ruleA (rulePart s) j < kOf s
+  pub lowB : ruleB (rulePart s) j < kOf s
+  pub cellA : ruleA (rulePart s) j < length cells
+  pub cellB : ruleB (rulePart s) j < length cells
+  pub listedA : inList s (ruleA (rulePart s) j) (cellsOf cells (ruleA (rulePart s) j)) ≡ true
+  pub listedB : inList s (ruleB (rulePart s) j) (cellsOf cells (ruleB (rulePart s) j)) ≡ true
+
+pub rule-taken : {s cells : List ℕ} {j : ℕ} → Taken s cells → j < qOf s → RuleTaken s cells j
+rule-taken {s} {cells} {j} t b =
+    let P = parts-of s (t .accepted) in
+    let o = rule-links P j b in
+    let e = t .enough in
+    let at = listed-at (linkPart s) (freqPart s) (kOf s) (cellsOf cells) in
+    record {
+      row = links-within P j b .2;
+      lowA = omega arith;
+      lowB = omega arith;
+      cellA = omega arith;
+      cellB = omega arith;
+      listedA = at (ruleA (rulePart s) j) (t .listed) (omega arith);
+      listedB = at (ruleB (rulePart s) j) (t .listed) (omega arith);
+    }
+
+-- a sheet that the reader refuses is refused by the check, for the same cause
+pub check-refused : (s cells : List ℕ) (r : Reading) (x : Cause) → numberOf r ≡ refusal s → r ≡ Refused x
+    → causeNumber x ≡ checked (jobOf s) cells
+unfolding checked
+check-refused s cells r x h e =
+    let m : refusal s ≡ causeNumber x = sym h ∙ ap numberOf e in
+    let o = cause-some x in
+    rw (m, ne-eqb (causeNumber x) 0 (λ z. omega arith))

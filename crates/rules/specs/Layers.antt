@@ -1,4 +1,5 @@
--- "Vertex v is the v-th frequency of the sheet, from 0; a link's vertices form its layer". A vertex's frequency is `freq` at its number.
+-- "Vertex v is the v-th frequency of the sheet, from 0; a link's vertices form its layer". A vertex's frequency is
+-- `freq` at its number.
 use Prim.Native.Nat.{ℕ, zero, suc, _+_, _≤_, _<_}
 use mathlib.Core.List.{List}
 use mathlib.Core.Bool.{cond}

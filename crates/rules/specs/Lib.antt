@@ -1,4 +1,6 @@
+pub mod Job
 pub mod Layers
 pub mod Parts
 pub mod Pairs
 pub mod Plans
+pub mod Asked

@@ -18,9 +18,11 @@ samePair p x y i = eqb (pairFirst p i) x && eqb (pairSecond p i) y
 unfoldable pub listsPair : List ℕ → ℕ → ℕ → ℕ → ℕ → Bool
 listsPair p base count x y = any count (λ i. samePair p x y (base + i))
 
--- "Kind 1: the frequencies differ by at least value. Kind 2: they differ by just value .. Kind 3: only listed pairs are allowed"
+-- "Kind 1: the frequencies differ by at least value. Kind 2: they differ by just value", and
+-- "Kind 3: only listed pairs are allowed"
 unfoldable pub agree : ℕ → ℕ → ℕ → Bool → Bool
-agree kind value apart listed = cond (eqb kind 1) (leb value apart) (cond (eqb kind 2) (eqb apart value) (eqb kind 3 && listed))
+agree kind value apart listed =
+    cond (eqb kind 1) (leb value apart) (cond (eqb kind 2) (eqb apart value) (eqb kind 3 && listed))
 
 -- the link, frequency, rule and pair sections
 module _ (ls fs rs ps : List ℕ) where

@@ -1,12 +1,11 @@
--- The four sections of an accepted sheet with its four counts, and a rule row with two vertices of its links: what the pair test asks.
+-- The four sections of an accepted sheet with its four counts.
 use Prim.Native.Nat.{ℕ, _*_, _≤_, _<_}
 use mathlib.Core.Path.{_≡_}
 use mathlib.Core.List.{List}
 use mathlib.Core.Bool.{true}
 use lib.ListN.{length}
-use Rattle.sheet_rows.specs.Rows.{linkBytes, freqBytes, ruleBytes, pairBytes, ruleA, ruleB}
+use Rattle.sheet_rows.specs.Rows.{linkBytes, freqBytes, ruleBytes, pairBytes}
 use Rattle.sheet.specs.Sheet.{mostLinks, mostFreqs, linksOk, freqsOk, rulesOk, pairsOk}
-use Rattle.rules.specs.Layers.{InLink}
 
 pub record Parts (ls fs rs ps : List ℕ) (k n q t : ℕ) : Type 0 where
   -- "k is 1 to 64, n 1 to 512"
@@ -25,9 +24,20 @@ pub record Parts (ls fs rs ps : List ℕ) (k n q t : ℕ) : Type 0 where
   pub rules : rulesOk rs k q t ≡ true
   pub pairs : pairsOk ls rs ps q ≡ true
 
--- rule row j with vertex u of its link a and vertex v of its link b
-pub record RowAt (ls fs rs ps : List ℕ) (k n q t j u v : ℕ) : Type 0 where
+-- the link rows are there and right, of k links with n vertices
+pub record LinkRows (ls : List ℕ) (k n : ℕ) : Type 0 where
+  pub n-some : 0 < n
+  pub n-small : n ≤ mostFreqs
+  pub rows : linkBytes * k ≤ length ls
+  pub links : linksOk ls k n ≡ true
+
+-- the four sections of an accepted sheet with q rules, whatever the number of its pairs; and rule row j of one
+pub record Sections (ls fs rs ps : List ℕ) (k n q : ℕ) : Type 0 where
+  pub t : ℕ
+  pub parts : Parts ls fs rs ps k n q t
+
+pub record RuleRow (ls fs rs ps : List ℕ) (k n j : ℕ) : Type 0 where
+  pub q : ℕ
+  pub t : ℕ
   pub parts : Parts ls fs rs ps k n q t
   pub among : j < q
-  pub inA : InLink ls (ruleA rs j) u
-  pub inB : InLink ls (ruleB rs j) v

@@ -1,5 +1,5 @@
--- Assignments and the plan check: "The check takes a sheet and cells, reads the first k, and says yes exactly if each is in its link's
--- list and all rules hold".
+-- Assignments and the plan check: "The check takes a sheet and cells, reads the first k, and says yes exactly if each
+-- is in its link's list and all rules hold".
 use Prim.Native.Nat.{ℕ, _+_}
 use mathlib.Core.List.{List}
 use mathlib.Core.Bool.{Bool, true, false, _&&_}
@@ -8,7 +8,8 @@ use lib.Dec.{leb, eqb}
 use Rattle.sets.specs.Below.{all, any, first}
 use Rattle.sheet_rows.specs.Rows.{linkFirst, linkCount, freq, ruleA, ruleB}
 use Rattle.sheet.specs.Sheet.{kOf, qOf, linkPart, freqPart, rulePart, pairPart}
-use Rattle.sheet.specs.Refusal.{numberOf, passing, refusal}
+use Rattle.sheet.specs.Refusal.{causeNumber, passing, refusal}
+use Rattle.rules.specs.Job.{Job}
 use Rattle.rules.specs.Pairs.{allows}
 use Rattle.rules.specs.declared.CheckAnswer.{CheckAnswer}
 use Rattle.rules.specs.declared.CheckAnswer.the-variants.{No, Yes, Few, Refused}
@@ -32,7 +33,8 @@ inLists ls fs cells l = hasFreq ls fs l (cells l)
 -- rule row j "allows the two frequencies taken for its links"
 unfoldable pub ruleKept : List ℕ → List ℕ → List ℕ → List ℕ → (ℕ → ℕ) → ℕ → Bool
 ruleKept ls fs rs ps cells j =
-    allows ls fs rs ps j (vertexOf ls fs (ruleA rs j) (cells (ruleA rs j))) (vertexOf ls fs (ruleB rs j) (cells (ruleB rs j)))
+    allows ls fs rs ps j (vertexOf ls fs (ruleA rs j) (cells (ruleA rs j)))
+    (vertexOf ls fs (ruleB rs j) (cells (ruleB rs j)))
 
 -- an assignment that "keeps every rule"
 unfoldable pub keeps : List ℕ → List ℕ → List ℕ → List ℕ → ℕ → ℕ → (ℕ → ℕ) → Bool
@@ -42,8 +44,10 @@ keeps ls fs rs ps k q cells = all k (inLists ls fs cells) && all q (ruleKept ls 
 abbrev pub cellsOf : List ℕ → ℕ → ℕ
 cellsOf cells l = getD cells l 0
 
-unfoldable pub keepsSheet : List ℕ → List ℕ → Bool
-keepsSheet s cells = keeps (linkPart s) (freqPart s) (rulePart s) (pairPart s) (kOf s) (qOf s) (cellsOf cells)
+-- the assignment f, a frequency for each link, "keeps every rule" of the job
+unfoldable pub keepsJob : Job → (ℕ → ℕ) → Bool
+keepsJob job f =
+    let s = job .sheet in keeps (linkPart s) (freqPart s) (rulePart s) (pairPart s) (kOf s) (qOf s) f
 
 -- "0 for no, 100 for yes"
 abbrev pub yesNo : Bool → ℕ
@@ -51,12 +55,16 @@ yesNo true = 100
 yesNo false = 0
 
 -- "The check knows 1 to 8 and 10": the refusal number, 10 for "fewer than k plan cells", else yes or no
-unfoldable pub checked : List ℕ → List ℕ → ℕ
-checked s cells = passing (eqb (refusal s) 0) (refusal s) λ _. passing (leb (kOf s) (length cells)) 10 λ _. yesNo (keepsSheet s cells)
+unfoldable pub checked : Job → List ℕ → ℕ
+checked job cells =
+    let s = job .sheet in
+    passing (eqb (refusal s) 0) (refusal s) λ _.
+    passing (leb (kOf s) (length cells)) 10 λ _.
+    yesNo (keepsJob job (cellsOf cells))
 
--- the paper's number for each answer of the check
+-- the paper's number for each answer of the check: 0 is no, and no cause has it
 abbrev pub checkNumber : CheckAnswer → ℕ
 checkNumber No = 0
 checkNumber Yes = 100
 checkNumber Few = 10
-checkNumber (Refused cause) = numberOf cause
+checkNumber (Refused cause) = causeNumber cause

@@ -1,12 +1,15 @@
-// The pair test, on the sections of an accepted sheet: link, frequency, rule and pair section, then k, n, q and t.
+// The pair test: what a rule row of an accepted sheet says of two vertices of its links.
 ghost use mathlib.Core.Path.{_≡_};
-ghost use mathlib.Core.Bool.{_&&_};
-ghost use Prim.Native.Nat.{_+_, _-_, _*_, _<_, _≤_};
+ghost use Prim.Native.Nat.{_+_, _*_, _<_, _≤_};
 ghost use lib.ListN.{length};
-ghost use Rattle.sheet_rows.specs.Rows.{HasRow, pairBytes, linkFirst, ruleA, ruleB, ruleKind, ruleCount, ruleValue};
-ghost use Rattle.rules.specs.Layers.{InLink};
-ghost use Rattle.rules.specs.Parts.{Parts, RowAt};
-ghost use Rattle.rules.specs.Pairs.{distance as distanceOf, samePair, listsPair, agree as agreeOf, allows, fits as fitsBy, joins};
+ghost use Rattle.sheet_rows.specs.Rows.{HasRow, pairBytes, ruleKind};
+ghost use Rattle.sheet.specs.Sheet.{rulePart};
+ghost use Rattle.rules.specs.Pairs.{distance as distanceOf, samePair, listsPair, agree as agreeOf};
+ghost use Rattle.rules.specs.Asked.{RowAt, rowLists, rowAllows};
+use crate::parts::freq_part;
+use crate::parts::link_part;
+use crate::parts::pair_part;
+use crate::parts::rule_part;
 use sheet_rows::freq;
 use sheet_rows::link_first;
 use sheet_rows::pair_first;
@@ -34,7 +37,7 @@ fn is_pair(p: &[u8], i: usize, x: usize, y: usize) -> bool
 
 // Whether the pair of positions stands among `count` rows from `base` on.
 fn lists_pair(p: &[u8], base: usize, count: usize, x: usize, y: usize) -> bool
-    requires { ⌜ (0 < count → 4 * (base + count) ≤ length (now p)) ⌝ }
+    requires { ⌜ (0 < count → pairBytes * (base + count) ≤ length (now p)) ⌝ }
     ensures { λ r. ⌜ r ≡ listsPair (now (p .entry)) base count x y ⌝ }
 {
     let mut i = 0;
@@ -64,131 +67,31 @@ pub fn agree(kind: usize, value: usize, apart: usize, listed: bool) -> bool
 }
 
 // Whether rule row j, of kind 3, lists the positions of u and v.
-fn lists_vertices(
-    ls: &[u8],
-    fs: &[u8],
-    rs: &[u8],
-    ps: &[u8],
-    k: usize,
-    n: usize,
-    q: usize,
-    t: usize,
-    j: usize,
-    u: usize,
-    v: usize,
-) -> bool
-    requires { ⌜ RowAt (now ls) (now fs) (now rs) (now ps) k n q t j u v ⌝ }
-    requires { ⌜ ruleKind (now rs) j ≡ 3 ⌝ }
-    ensures { λ r. ⌜ r ≡ listsPair (now (ps .entry)) (ruleValue (now (rs .entry)) j) (ruleCount (now (rs .entry)) j) (u - linkFirst (now (ls .entry)) (ruleA (now (rs .entry)) j)) (v - linkFirst (now (ls .entry)) (ruleB (now (rs .entry)) j)) ⌝ }
+fn lists_vertices(s: &[u8], j: usize, u: usize, v: usize) -> bool
+    requires { ⌜ RowAt (now s) j u v × (ruleKind (rulePart (now s)) j ≡ 3) ⌝ }
+    ensures { λ r. ⌜ r ≡ rowLists (now (s .entry)) j u v ⌝ }
 {
+    let ls = link_part(s);
+    let rs = rule_part(s);
     let x = u - link_first(ls, rule_a(rs, j));
     let y = v - link_first(ls, rule_b(rs, j));
-    lists_pair(ps, rule_value(rs, j), rule_count(rs, j), x, y)
+    let ps = pair_part(s);
+    let base = rule_value(rs, j);
+    let count = rule_count(rs, j);
+    lists_pair(ps, base, count, x, y)
 }
 
 // The pair test at rule row j: whether it allows vertex u, of its link a, with vertex v, of its link b.
-pub fn row_allows(
-    ls: &[u8],
-    fs: &[u8],
-    rs: &[u8],
-    ps: &[u8],
-    k: usize,
-    n: usize,
-    q: usize,
-    t: usize,
-    j: usize,
-    u: usize,
-    v: usize,
-) -> bool
-    requires { ⌜ RowAt (now ls) (now fs) (now rs) (now ps) k n q t j u v ⌝ }
-    ensures { λ r. ⌜ r ≡ allows (now (ls .entry)) (now (fs .entry)) (now (rs .entry)) (now (ps .entry)) j u v ⌝ }
+pub fn row_allows(s: &[u8], j: usize, u: usize, v: usize) -> bool
+    requires { ⌜ RowAt (now s) j u v ⌝ }
+    ensures { λ r. ⌜ r ≡ rowAllows (now (s .entry)) j u v ⌝ }
 {
+    let rs = rule_part(s);
     let kind = rule_kind(rs, j);
     let value = rule_value(rs, j);
     if kind == 3 {
-        let listed = lists_vertices(ls, fs, rs, ps, k, n, q, t, j, u, v);
-        return agree(kind, value, 0, listed);
+        return agree(kind, value, 0, lists_vertices(s, j, u, v));
     }
+    let fs = freq_part(s);
     agree(kind, value, distance(freq(fs, u), freq(fs, v)), false)
-}
-
-// Whether rule row j is of other links than a and b, or allows vertex u of a with vertex v of b.
-fn fits(
-    ls: &[u8],
-    fs: &[u8],
-    rs: &[u8],
-    ps: &[u8],
-    k: usize,
-    n: usize,
-    q: usize,
-    t: usize,
-    a: usize,
-    b: usize,
-    u: usize,
-    v: usize,
-    j: usize,
-) -> bool
-    requires { ⌜ Parts (now ls) (now fs) (now rs) (now ps) k n q t × (j < q) × InLink (now ls) a u × InLink (now ls) b v ⌝ }
-    ensures { λ r. ⌜ r ≡ fitsBy (now (ls .entry)) (now (fs .entry)) (now (rs .entry)) (now (ps .entry)) a b u v j ⌝ }
-{
-    if rule_a(rs, j) != a {
-        return true;
-    }
-    if rule_b(rs, j) != b {
-        return true;
-    }
-    row_allows(ls, fs, rs, ps, k, n, q, t, j, u, v)
-}
-
-// The same, whichever of a and b is the lower link.
-fn fits_both(
-    ls: &[u8],
-    fs: &[u8],
-    rs: &[u8],
-    ps: &[u8],
-    k: usize,
-    n: usize,
-    q: usize,
-    t: usize,
-    a: usize,
-    b: usize,
-    u: usize,
-    v: usize,
-    j: usize,
-) -> bool
-    requires { ⌜ Parts (now ls) (now fs) (now rs) (now ps) k n q t × (j < q) × InLink (now ls) a u × InLink (now ls) b v ⌝ }
-    ensures { λ r. ⌜ r ≡ fitsBy (now (ls .entry)) (now (fs .entry)) (now (rs .entry)) (now (ps .entry)) a b u v j && fitsBy (now (ls .entry)) (now (fs .entry)) (now (rs .entry)) (now (ps .entry)) b a v u j ⌝ }
-{
-    if !fits(ls, fs, rs, ps, k, n, q, t, a, b, u, v, j) {
-        return false;
-    }
-    fits(ls, fs, rs, ps, k, n, q, t, b, a, v, u, j)
-}
-
-// Whether the rule of the links a and b, if any, allows vertex u of a with vertex v of b.
-pub fn allowed(
-    ls: &[u8],
-    fs: &[u8],
-    rs: &[u8],
-    ps: &[u8],
-    k: usize,
-    n: usize,
-    q: usize,
-    t: usize,
-    a: usize,
-    b: usize,
-    u: usize,
-    v: usize,
-) -> bool
-    requires { ⌜ Parts (now ls) (now fs) (now rs) (now ps) k n q t × InLink (now ls) a u × InLink (now ls) b v ⌝ }
-    ensures { λ r. ⌜ r ≡ joins (now (ls .entry)) (now (fs .entry)) (now (rs .entry)) (now (ps .entry)) q a b u v ⌝ }
-{
-    let mut j = 0;
-    while j < q {
-        if !fits_both(ls, fs, rs, ps, k, n, q, t, a, b, u, v, j) {
-            return false;
-        }
-        j += 1;
-    }
-    true
 }

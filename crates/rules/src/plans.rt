@@ -1,14 +1,21 @@
-// Whether cells are an assignment that keeps every rule, on the sections of an accepted sheet.
+// Whether cells are an assignment that keeps every rule of an accepted sheet.
 ghost use mathlib.Core.Path.{_≡_};
 ghost use mathlib.Core.Bool.{true};
 ghost use Prim.Native.Nat.{_+_, _*_, _<_, _≤_};
 ghost use lib.ListN.{length};
 ghost use Rattle.sets.specs.Below.{all};
-ghost use Rattle.sheet_rows.specs.Rows.{linkBytes, freqBytes};
-ghost use Rattle.sheet.specs.Sheet.{linksOk};
-ghost use Rattle.rules.specs.Parts.{Parts};
-ghost use Rattle.rules.specs.Plans.{placeOf, hasFreq, vertexOf, inLists, ruleKept, keeps as keepsOf, cellsOf};
+ghost use Rattle.sheet_rows.specs.Rows.{freqBytes};
+ghost use Rattle.sheet.specs.Sheet.{kOf, qOf};
+ghost use Rattle.sheet.specs.Accepted.{Accepted};
+ghost use Rattle.rules.specs.Job.{jobOf};
+ghost use Rattle.rules.specs.Plans.{placeOf, cellsOf, keepsJob};
+ghost use Rattle.rules.specs.Asked.{Taken, inList, vertexIn, cellListed, cellsKeep};
 use crate::pairs::row_allows;
+use crate::parts::freq_part;
+use crate::parts::link_part;
+use crate::parts::rule_part;
+use sheet::links_of;
+use sheet::rules_of;
 use sheet_rows::freq;
 use sheet_rows::link_count;
 use sheet_rows::link_first;
@@ -24,7 +31,7 @@ fn wide(x: u32) -> usize
 
 // The place of the frequency x among `count` from vertex `from` on, or `count`.
 fn place(fs: &[u8], from: usize, count: usize, x: usize) -> usize
-    requires { ⌜ 4 * (from + count) ≤ length (now fs) ⌝ }
+    requires { ⌜ freqBytes * (from + count) ≤ length (now fs) ⌝ }
     ensures { λ r. ⌜ r ≡ placeOf (now (fs .entry)) from count x ⌝ }
 {
     let mut i = 0;
@@ -38,39 +45,42 @@ fn place(fs: &[u8], from: usize, count: usize, x: usize) -> usize
 }
 
 // Whether x is in the list of link l.
-fn has_freq(ls: &[u8], fs: &[u8], k: usize, n: usize, l: usize, x: usize) -> bool
-    requires { ⌜ (linkBytes * k ≤ length (now ls)) × (freqBytes * n ≤ length (now fs)) × (linksOk (now ls) k n ≡ true) × (l < k) ⌝ }
-    ensures { λ r. ⌜ r ≡ hasFreq (now (ls .entry)) (now (fs .entry)) l x ⌝ }
+fn has_freq(s: &[u8], l: usize, x: usize) -> bool
+    requires { ⌜ Accepted (now s) × (l < kOf (now s)) ⌝ }
+    ensures { λ r. ⌜ r ≡ inList (now (s .entry)) l x ⌝ }
 {
+    let ls = link_part(s);
     let count = link_count(ls, l);
-    place(fs, link_first(ls, l), count, x) < count
+    place(freq_part(s), link_first(ls, l), count, x) < count
 }
 
 // The vertex of the frequency x of link l.
-fn vertex(ls: &[u8], fs: &[u8], k: usize, n: usize, l: usize, x: usize) -> usize
-    requires { ⌜ (linkBytes * k ≤ length (now ls)) × (freqBytes * n ≤ length (now fs)) × (linksOk (now ls) k n ≡ true) × (l < k) × (hasFreq (now ls) (now fs) l x ≡ true) ⌝ }
-    ensures { λ r. ⌜ r ≡ vertexOf (now (ls .entry)) (now (fs .entry)) l x ⌝ }
+fn vertex(s: &[u8], l: usize, x: usize) -> usize
+    requires { ⌜ Accepted (now s) × (l < kOf (now s)) × (inList (now s) l x ≡ true) ⌝ }
+    ensures { λ r. ⌜ r ≡ vertexIn (now (s .entry)) l x ⌝ }
 {
+    let ls = link_part(s);
     let from = link_first(ls, l);
-    from + place(fs, from, link_count(ls, l), x)
+    from + place(freq_part(s), from, link_count(ls, l), x)
 }
 
 // Whether cell l is in the list of link l.
-fn cell_listed(ls: &[u8], fs: &[u8], k: usize, n: usize, cells: &[u32], l: usize) -> bool
-    requires { ⌜ (linkBytes * k ≤ length (now ls)) × (freqBytes * n ≤ length (now fs)) × (linksOk (now ls) k n ≡ true) × (k ≤ length (now cells)) × (l < k) ⌝ }
-    ensures { λ r. ⌜ r ≡ inLists (now (ls .entry)) (now (fs .entry)) (cellsOf (now (cells .entry))) l ⌝ }
+fn cell_listed(s: &[u8], cells: &[u32], l: usize) -> bool
+    requires { ⌜ Accepted (now s) × (kOf (now s) ≤ length (now cells)) × (l < kOf (now s)) ⌝ }
+    ensures { λ r. ⌜ r ≡ cellListed (now (s .entry)) (now (cells .entry)) l ⌝ }
 {
-    has_freq(ls, fs, k, n, l, wide(cells[l]))
+    has_freq(s, l, wide(cells[l]))
 }
 
 // Whether each of the first k cells is in its link's list.
-fn cells_listed(ls: &[u8], fs: &[u8], k: usize, n: usize, cells: &[u32]) -> bool
-    requires { ⌜ (linkBytes * k ≤ length (now ls)) × (freqBytes * n ≤ length (now fs)) × (linksOk (now ls) k n ≡ true) × (k ≤ length (now cells)) ⌝ }
-    ensures { λ r. ⌜ r ≡ all k (inLists (now (ls .entry)) (now (fs .entry)) (cellsOf (now (cells .entry)))) ⌝ }
+fn cells_listed(s: &[u8], cells: &[u32]) -> bool
+    requires { ⌜ Accepted (now s) × (kOf (now s) ≤ length (now cells)) ⌝ }
+    ensures { λ r. ⌜ r ≡ all (kOf (now (s .entry))) (cellListed (now (s .entry)) (now (cells .entry))) ⌝ }
 {
+    let k = links_of(s);
     let mut l = 0;
     while l < k {
-        if !cell_listed(ls, fs, k, n, cells, l) {
+        if !cell_listed(s, cells, l) {
             return false;
         }
         l += 1;
@@ -79,46 +89,27 @@ fn cells_listed(ls: &[u8], fs: &[u8], k: usize, n: usize, cells: &[u32]) -> bool
 }
 
 // Whether rule row j allows the frequencies taken for its links.
-fn rule_kept(
-    ls: &[u8],
-    fs: &[u8],
-    rs: &[u8],
-    ps: &[u8],
-    k: usize,
-    n: usize,
-    q: usize,
-    t: usize,
-    cells: &[u32],
-    j: usize,
-) -> bool
-    requires { ⌜ Parts (now ls) (now fs) (now rs) (now ps) k n q t × (k ≤ length (now cells)) × (all k (inLists (now ls) (now fs) (cellsOf (now cells))) ≡ true) × (j < q) ⌝ }
-    ensures { λ r. ⌜ r ≡ ruleKept (now (ls .entry)) (now (fs .entry)) (now (rs .entry)) (now (ps .entry)) (cellsOf (now (cells .entry))) j ⌝ }
+fn rule_kept(s: &[u8], cells: &[u32], j: usize) -> bool
+    requires { ⌜ Taken (now s) (now cells) × (j < qOf (now s)) ⌝ }
+    ensures { λ r. ⌜ r ≡ cellsKeep (now (s .entry)) (now (cells .entry)) j ⌝ }
 {
+    let rs = rule_part(s);
     let a = rule_a(rs, j);
     let b = rule_b(rs, j);
-    let u = vertex(ls, fs, k, n, a, wide(cells[a]));
-    let v = vertex(ls, fs, k, n, b, wide(cells[b]));
-    row_allows(ls, fs, rs, ps, k, n, q, t, j, u, v)
+    let u = vertex(s, a, wide(cells[a]));
+    let v = vertex(s, b, wide(cells[b]));
+    row_allows(s, j, u, v)
 }
 
 // Whether every rule row allows the frequencies taken for its links.
-fn rules_kept(
-    ls: &[u8],
-    fs: &[u8],
-    rs: &[u8],
-    ps: &[u8],
-    k: usize,
-    n: usize,
-    q: usize,
-    t: usize,
-    cells: &[u32],
-) -> bool
-    requires { ⌜ Parts (now ls) (now fs) (now rs) (now ps) k n q t × (k ≤ length (now cells)) × (all k (inLists (now ls) (now fs) (cellsOf (now cells))) ≡ true) ⌝ }
-    ensures { λ r. ⌜ r ≡ all q (ruleKept (now (ls .entry)) (now (fs .entry)) (now (rs .entry)) (now (ps .entry)) (cellsOf (now (cells .entry)))) ⌝ }
+fn rules_kept(s: &[u8], cells: &[u32]) -> bool
+    requires { ⌜ Taken (now s) (now cells) ⌝ }
+    ensures { λ r. ⌜ r ≡ all (qOf (now (s .entry))) (cellsKeep (now (s .entry)) (now (cells .entry))) ⌝ }
 {
+    let q = rules_of(s);
     let mut j = 0;
     while j < q {
-        if !rule_kept(ls, fs, rs, ps, k, n, q, t, cells, j) {
+        if !rule_kept(s, cells, j) {
             return false;
         }
         j += 1;
@@ -127,22 +118,12 @@ fn rules_kept(
 }
 
 // Whether the cells are an assignment that keeps every rule.
-pub fn keeps(
-    ls: &[u8],
-    fs: &[u8],
-    rs: &[u8],
-    ps: &[u8],
-    k: usize,
-    n: usize,
-    q: usize,
-    t: usize,
-    cells: &[u32],
-) -> bool
-    requires { ⌜ Parts (now ls) (now fs) (now rs) (now ps) k n q t × (k ≤ length (now cells)) ⌝ }
-    ensures { λ r. ⌜ r ≡ keepsOf (now (ls .entry)) (now (fs .entry)) (now (rs .entry)) (now (ps .entry)) k q (cellsOf (now (cells .entry))) ⌝ }
+pub fn keeps_sheet(s: &[u8], cells: &[u32]) -> bool
+    requires { ⌜ Accepted (now s) × (kOf (now s) ≤ length (now cells)) ⌝ }
+    ensures { λ r. ⌜ r ≡ keepsJob (jobOf (now (s .entry))) (cellsOf (now (cells .entry))) ⌝ }
 {
-    if !cells_listed(ls, fs, k, n, cells) {
+    if !cells_listed(s, cells) {
         return false;
     }
-    rules_kept(ls, fs, rs, ps, k, n, q, t, cells)
+    rules_kept(s, cells)
 }

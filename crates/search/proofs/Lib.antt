@@ -1,4 +1,5 @@
 pub mod Tree
+pub mod Order
 pub mod First
 pub mod Setting
 pub mod Limit

@@ -178,7 +178,8 @@ count-le (suc m) p = let a = count-le m p in let b = one-mono (p m) true (λ _. 
 pub count-mono : (m : ℕ) (p q : ℕ → Bool) → ((i : ℕ) → i < m → p i ≡ true → q i ≡ true) → count m p ≤ count m q
 unfolding count
 count-mono zero p q f = omega arith
-count-mono (suc m) p q f = let a = count-mono m p q (λ i h. f i (omega arith)) in let b = one-mono (p m) (q m) (f m (omega arith)) in omega arith
+count-mono (suc m) p q f = let a = count-mono m p q (λ i h. f i (omega arith)) in
+    let b = one-mono (p m) (q m) (f m (omega arith)) in omega arith
 
 -- a set with a member less counts less
 pub count-less : (m : ℕ) (p q : ℕ → Bool) → ((i : ℕ) → i < m → p i ≡ true → q i ≡ true)
@@ -186,7 +187,8 @@ pub count-less : (m : ℕ) (p q : ℕ → Bool) → ((i : ℕ) → i < m → p i
 unfolding count
 count-less zero p q f i h a b = absurd (omega arith)
 count-less (suc m) p q f i h a b = below i m h
-    (λ l. let r = count-less m p q (λ j h. f j (omega arith)) i l a b in let b = one-mono (p m) (q m) (f m (omega arith)) in omega arith)
+    (λ l. let r = count-less m p q (λ j h. f j (omega arith)) i l a b in
+    let b = one-mono (p m) (q m) (f m (omega arith)) in omega arith)
     (λ e. let r = count-mono m p q (λ j h. f j (omega arith)) in
     let u : one (p m) ≡ 0 = rw (← e, a) refl in let w : one (q m) ≡ 1 = rw (← e, b) refl in omega arith)
 
@@ -212,7 +214,8 @@ unfolding loop
 loop-more m f a = rw add-one
 
 -- what each turn keeps, the loop keeps
-pub loop-keeps : {A : Type 0} (P : A → Type 0) (m : ℕ) (f : ℕ → A → A) → ((i : ℕ) → i < m → (a : A) → P a → P (f i a)) → (a : A) → P a → P (loop m f a)
+pub loop-keeps : {A : Type 0} (P : A → Type 0) (m : ℕ) (f : ℕ → A → A) → ((i : ℕ) → i < m → (a : A) → P a → P (f i a))
+    → (a : A) → P a → P (loop m f a)
 unfolding loop
 loop-keeps P zero f h a p = p
 loop-keeps P (suc m) f h a p = h m (omega arith) (loop m f a) (loop-keeps P m f (λ i l. h i (omega arith)) a p)

@@ -1,7 +1,7 @@
 -- Lists that are a function at each place, and a loop that fills one from the front.
-use mathlib.Core.Path.{_≡_, refl, sym, _∙_, ap}
+use mathlib.Core.Path.{_≡_, refl, sym, _∙_}
 use mathlib.Core.List.{List, [], _∷_, _++_, append-nil, append-assoc}
-use Prim.Native.Nat.{ℕ, zero, suc, _+_, _≤_, _<_}
+use Prim.Native.Nat.{ℕ, zero, suc, _+_, _<_}
 use native.Mathlib.Numerals.{add-one}
 use native.Mathlib.Omega.{arith}
 use lib.ListN.{length, drop, set, getD, length-append, List·getD-append}
@@ -31,11 +31,14 @@ pub tab-none : (d : List ℕ) (f : ℕ → ℕ) → d ≡ tabulate 0 f ++ drop 0
 unfolding tabulate
 tab-none d f = refl
 
-pub tab-more : (d e : List ℕ) (f : ℕ → ℕ) (i v : ℕ) → i < length d → e ≡ tabulate i f ++ drop i d → v ≡ f i → set e i v ≡ tabulate (i + 1) f ++ drop (i + 1) d
+pub tab-more : (d e : List ℕ) (f : ℕ → ℕ) (i v : ℕ) → i < length d → e ≡ tabulate i f ++ drop i d → v ≡ f i
+    → set e i v ≡ tabulate (i + 1) f ++ drop (i + 1) d
 unfolding tabulate
 tab-more d e f i v h q w =
     rw (q, w, drop-cons d i 0 h, add-one)
-    (set-at (tabulate i f) (getD d i 0) (drop (suc i) d) (f i) i (length-tabulate i f) ∙ sym (append-assoc (tabulate i f) (f i ∷ []) (drop (suc i) d)))
+    (set-at (tabulate i f) (getD d i 0) (drop (suc i) d) (f i) i (length-tabulate i f)
+    ∙ sym (append-assoc (tabulate i f) (f i ∷ []) (drop (suc i) d)))
 
-pub tab-done : (d e : List ℕ) (f : ℕ → ℕ) (i : ℕ) → i ≡ length d → e ≡ tabulate i f ++ drop i d → e ≡ tabulate (length d) f
+pub tab-done : (d e : List ℕ) (f : ℕ → ℕ) (i : ℕ) → i ≡ length d → e ≡ tabulate i f ++ drop i d
+    → e ≡ tabulate (length d) f
 tab-done d e f i h q = q ∙ rw (h, drop-length) (append-nil _)

@@ -1,5 +1,5 @@
 -- A one-to-one map of k numbers into k numbers takes each value.
-use mathlib.Core.Path.{_≡_, refl, sym, ap, subst, _∙_}
+use mathlib.Core.Path.{_≡_, sym, _∙_}
 use mathlib.Core.Bool.{true, false}
 use Prim.Native.Nat.{ℕ, zero, suc, _<_}
 use native.Mathlib.Omega.{arith}
@@ -25,7 +25,8 @@ crowd zero f a b = let h = a 0 (omega arith) in omega arith
 crowd (suc k) f a b = crowd k (fold k (f (suc k)) f)
     (λ j l. case (λ w. w < k) (eqb (f j) k) (f (suc k)) (f j)
     (λ e. let h = a (suc k) (omega arith) in let q = eqb-true (f j) k e in
-    let ne : f (suc k) ≡ k → ⊥ = λ i. b j (suc k) (omega arith) (omega arith) (λ x. omega arith) (q ∙ sym i) in omega arith)
+    let ne : f (suc k) ≡ k → ⊥ = λ i. b j (suc k) (omega arith) (omega arith) (λ x. omega arith) (q ∙ sym i) in
+    omega arith)
     (λ e. let h = a j (omega arith) in let ne : f j ≡ k → ⊥ = λ i. clash (eqb (f j) k) (eq-eqb _ _ i) e in omega arith))
     (λ i j l r ne. case (λ w. w ≡ fold k (f (suc k)) f j → ⊥) (eqb (f i) k) (f (suc k)) (f i)
     (λ e. case (λ w. f (suc k) ≡ w → ⊥) (eqb (f j) k) (f (suc k)) (f j)

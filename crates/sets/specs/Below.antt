@@ -1,5 +1,5 @@
--- Tests, sums and searches over the numbers below a bound. The last number is on top, so that a loop's next turn is a definition's next
--- clause.
+-- Tests, sums and searches over the numbers below a bound. The last number is on top, so that a loop's next turn is a
+-- definition's next clause.
 use mathlib.Core.Bool.{Bool, true, false, _&&_, _||_}
 use mathlib.Core.List.{List, [], _∷_, _++_}
 use Prim.Native.Nat.{ℕ, zero, suc, _+_}

@@ -21,6 +21,7 @@ form-long s h = leb-true headerBytes (length s) (and-out (leb headerBytes (lengt
 pub head-is : (s : List ℕ) → formOk s ≡ true → linkCountOk s ≡ true → countsOk s ≡ true → offsetsOk s ≡ true → Head s
 unfolding linkCountOk countsOk offsetsOk
 head-is s f l n o =
+    let end = endAt (kOf s) (nOf s) (qOf s) (tOf s) in
     let v = and-out (ltb 0 (kOf s)) (leb (kOf s) mostLinks) l in
     let w = and-out (ltb 0 (nOf s) && leb (nOf s) mostFreqs && leb (qOf s) mostRules) (leb (tOf s) mostPairs) n in
     let x = and-out (ltb 0 (nOf s) && leb (nOf s) mostFreqs) (leb (qOf s) mostRules) (w .0) in
@@ -33,7 +34,7 @@ head-is s f l n o =
       q-small = leb-true (qOf s) mostRules (x .1);
       t-small = leb-true (tOf s) mostPairs (w .1);
       long = form-long s f;
-      whole = eqb-true (length s) (endAt (kOf s) (nOf s) (qOf s) (tOf s)) (and-out (tableOk s) (eqb (length s) (endAt (kOf s) (nOf s) (qOf s) (tOf s))) o .1);
+      whole = eqb-true (length s) end (and-out (tableOk s) (eqb (length s) end) o .1);
     }
 
 pub accepted : (s : List ℕ) → refusal s ≡ 0 → Accepted s

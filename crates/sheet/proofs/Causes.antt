@@ -1,9 +1,15 @@
--- Laws of `unless` and `passing`: a cause where a test fails.
+-- Laws of causes, and of `unless` and `passing`: a cause where a test fails.
 use Prim.Native.Nat.{ℕ, _<_}
-use mathlib.Core.Path.{_≡_, refl}
+use mathlib.Core.Path.{_≡_, _∙_, ap, refl, sym}
 use mathlib.Core.Bool.{Bool, true, false}
 use native.Mathlib.Omega.{arith}
-use Rattle.sheet.specs.Refusal.{unless, passing}
+use lib.Dec.{lit<}
+use Rattle.sheet.specs.Refusal.{causeNumber, numberOf, unless, passing}
+use Rattle.sheet.specs.declared.Cause.{Cause}
+use Rattle.sheet.specs.declared.Cause.the-variants.{Form, Links, Counts, Offsets}
+use Rattle.sheet.specs.declared.Cause.the-variants.{LinkRow, Frequency, RuleRow, PairRow}
+use Rattle.sheet.specs.declared.Reading.{Reading}
+use Rattle.sheet.specs.declared.Reading.the-variants.{Refused}
 
 pub unless-true : (b : Bool) (c : ℕ) → b ≡ true → 0 ≡ unless b c
 unfolding unless
@@ -18,10 +24,24 @@ unfolding unless
 unless-zero true c h e = refl
 unless-zero false c h e = absurd (omega arith)
 
-pub unless-more : (b : Bool) (c : ℕ) → (unless b c ≡ 0 → ⊥) → b ≡ false
+-- no cause has the number 0
+pub cause-some : (x : Cause) → 0 < causeNumber x
+cause-some Form = lit< tt
+cause-some Links = lit< tt
+cause-some Counts = lit< tt
+cause-some Offsets = lit< tt
+cause-some LinkRow = lit< tt
+cause-some Frequency = lit< tt
+cause-some RuleRow = lit< tt
+cause-some PairRow = lit< tt
+
+-- a reading with a cause, of a test that fails with c: the test failed, and c is the cause's number
+pub refused-is : (r : Reading) (x : Cause) (b : Bool) (c : ℕ) → numberOf r ≡ unless b c → r ≡ Refused x
+    → (b ≡ false) × (causeNumber x ≡ c)
 unfolding unless
-unless-more true c h = absurd (h refl)
-unless-more false c h = refl
+refused-is r x true c h e =
+    let z = cause-some x in let w : causeNumber x ≡ 0 = sym (ap numberOf e) ∙ h in absurd (omega arith)
+refused-is r x false c h e = (refl, sym (ap numberOf e) ∙ h)
 
 -- a step of a chain of causes that ends in 0
 pub passed : (b : Bool) (c : ℕ) (after : Unit {0} → ℕ) → 0 < c → passing b c after ≡ 0 → (b ≡ true) × (after tt ≡ 0)

@@ -1,6 +1,6 @@
 -- Laws of the link section: a row that was read, the loop over the rows, and what an accepted section says of a link.
 use Prim.Native.Nat.{ℕ, _+_, _≤_, _<_}
-use mathlib.Core.Path.{_≡_, refl}
+use mathlib.Core.Path.{_≡_, ap, refl, sym}
 use mathlib.Core.List.{List}
 use mathlib.Core.Bool.{Bool, true, false}
 use native.Mathlib.Omega.{arith}
@@ -10,25 +10,26 @@ use Rattle.sets.specs.Below.{all, sumTo}
 use Rattle.sets.proofs.Tests.{and-out}
 use Rattle.sets.proofs.Below.{all-out, all-false, sum-in}
 use Rattle.sheet_rows.specs.Rows.{linkFirst, linkCount}
-use Rattle.sheet.specs.Sheet.{linkRowOk, linkOk, linksOk, rowIf, linkRow}
-use Rattle.sheet.specs.declared.Row.{Row}
+use Rattle.sheet.specs.Sheet.{linkRowOk, linkOk, linksOk, RowRead, rowRead, rowIf, linkRow}
 use Rattle.sheet.specs.declared.Row.the-variants.{Link, Bad}
 
-picked-link : (b : Bool) (f n g m : ℕ) → rowIf b (Link f n) ≡ Link g m → (b ≡ true) × (n ≡ m)
-picked-link true f n g m e = (refl, cc)
-picked-link false f n g m e = let z : _≡_ {A = ℕ} 0 1 = cc in absurd (omega arith)
+picked-link : (b : Bool) (f n g m : ℕ) → rowRead (Link g m) ≡ rowIf b f n → (b ≡ true) × (n ≡ m)
+picked-link true f n g m e = (refl, sym (ap (λ (r : RowRead). r .count) e))
+picked-link false f n g m e = let z : _≡_ {A = ℕ} 0 5 = ap (λ (r : RowRead). r .number) e in absurd (omega arith)
 
-picked-bad : (b : Bool) (f n : ℕ) → rowIf b (Link f n) ≡ Bad → b ≡ false
-picked-bad true f n e = let z : _≡_ {A = ℕ} 0 1 = cc in absurd (omega arith)
+picked-bad : (b : Bool) (f n : ℕ) → rowRead Bad ≡ rowIf b f n → b ≡ false
+picked-bad true f n e = let z : _≡_ {A = ℕ} 5 0 = ap (λ (r : RowRead). r .number) e in absurd (omega arith)
 picked-bad false f n e = refl
 
 -- a row that was read is right at its place, or not
-pub row-link : (p : List ℕ) (l sum g m : ℕ) → sum ≡ sumTo l (linkCount p) → linkRow p l sum ≡ Link g m
+pub row-link : (p : List ℕ) (l sum g m : ℕ) → sum ≡ sumTo l (linkCount p) → rowRead (Link g m) ≡ linkRow p l sum
     → (linkOk p l ≡ true) × (linkCount p l ≡ m)
 unfolding linkOk
-row-link p l sum g m e h = let o = picked-link (linkRowOk p l sum) (linkFirst p l) (linkCount p l) g m h in (rw (← e) (o .0), o .1)
+row-link p l sum g m e h =
+    let o = picked-link (linkRowOk p l sum) (linkFirst p l) (linkCount p l) g m h in (rw (← e) (o .0), o .1)
 
-pub row-bad : (p : List ℕ) (l sum : ℕ) → sum ≡ sumTo l (linkCount p) → linkRow p l sum ≡ Bad → linkOk p l ≡ false
+pub row-bad : (p : List ℕ) (l sum : ℕ) → sum ≡ sumTo l (linkCount p) → rowRead Bad ≡ linkRow p l sum
+    → linkOk p l ≡ false
 unfolding linkOk
 row-bad p l sum e h = rw (← e) (picked-bad (linkRowOk p l sum) (linkFirst p l) (linkCount p l) h)
 
@@ -36,8 +37,8 @@ pub links-false : (p : List ℕ) (k n l : ℕ) → l < k → linkOk p l ≡ fals
 unfolding linksOk
 links-false p k n l h e = rw (all-false k (linkOk p) l h e)
 
-pub links-are : (p : List ℕ) (k n l sum : ℕ) (b : Bool) → l ≡ k → all l (linkOk p) ≡ true → sum ≡ sumTo l (linkCount p) → eqb sum n ≡ b
-    → linksOk p k n ≡ b
+pub links-are : (p : List ℕ) (k n l sum : ℕ) (b : Bool) → l ≡ k → all l (linkOk p) ≡ true → sum ≡ sumTo l (linkCount p)
+    → eqb sum n ≡ b → linksOk p k n ≡ b
 unfolding linksOk
 links-are p k n l sum b q h e d = rw (← q, h, ← e) d
 

@@ -1,3 +1,4 @@
 pub mod Sheet
+pub mod Read
 pub mod Refusal
 pub mod Accepted

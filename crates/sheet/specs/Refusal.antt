@@ -2,25 +2,33 @@
 use Prim.Native.Nat.{ℕ}
 use mathlib.Core.List.{List}
 use mathlib.Core.Bool.{Bool, true, false, _&&_}
-use lib.ListN.{length, drop}
+use lib.ListN.{length}
 use lib.Dec.{ltb, leb, eqb}
 use Rattle.wire.specs.Fields.{le32}
 use Rattle.sheet.specs.Sheet.{mostLinks, mostFreqs, mostRules, mostPairs, headerBytes, kOf, nOf, qOf, tOf}
-use Rattle.sheet.specs.Sheet.{freqsAt, rulesAt, pairsAt, endAt, linksOk, freqsOk, rulesOk, pairsOk}
-use Rattle.sheet.specs.declared.Answer.{Answer}
-use Rattle.sheet.specs.declared.Answer.the-variants.{Fine, Form, Links, Counts, Offsets, LinkRow, Frequency, RuleRow, PairRow}
+use Rattle.sheet.specs.Sheet.{freqsAt, rulesAt, pairsAt, endAt, linkPart, freqPart, rulePart, pairPart}
+use Rattle.sheet.specs.Sheet.{linksOk, freqsOk, rulesOk, pairsOk}
+use Rattle.sheet.specs.declared.Cause.{Cause}
+use Rattle.sheet.specs.declared.Cause.the-variants.{Form, Links, Counts, Offsets}
+use Rattle.sheet.specs.declared.Cause.the-variants.{LinkRow, Frequency, RuleRow, PairRow}
+use Rattle.sheet.specs.declared.Reading.{Reading}
+use Rattle.sheet.specs.declared.Reading.the-variants.{Fine, Refused}
 
--- the paper's number for each answer of the reader; 0 accepts
-abbrev pub numberOf : Answer → ℕ
+-- the paper's number for each cause
+abbrev pub causeNumber : Cause → ℕ
+causeNumber Form = 1
+causeNumber Links = 2
+causeNumber Counts = 3
+causeNumber Offsets = 4
+causeNumber LinkRow = 5
+causeNumber Frequency = 6
+causeNumber RuleRow = 7
+causeNumber PairRow = 8
+
+-- the paper's number for each answer of the reader: 0 accepts, and no cause has it
+abbrev pub numberOf : Reading → ℕ
 numberOf Fine = 0
-numberOf Form = 1
-numberOf Links = 2
-numberOf Counts = 3
-numberOf Offsets = 4
-numberOf LinkRow = 5
-numberOf Frequency = 6
-numberOf RuleRow = 7
-numberOf PairRow = 8
+numberOf (Refused cause) = causeNumber cause
 
 -- 1: "under 40 bytes, or form not 1"
 unfoldable pub formOk : List ℕ → Bool
@@ -37,7 +45,8 @@ countsOk s = ltb 0 (nOf s) && leb (nOf s) mostFreqs && leb (qOf s) mostRules && 
 -- 4: "offset or length wrong"
 unfoldable pub tableOk : List ℕ → Bool
 tableOk s =
-    eqb (le32 s 20) headerBytes && eqb (le32 s 24) (freqsAt (kOf s)) && eqb (le32 s 28) (rulesAt (kOf s) (nOf s)) && eqb (le32 s 32) (pairsAt (kOf s) (nOf s) (qOf s))
+    eqb (le32 s 20) headerBytes && eqb (le32 s 24) (freqsAt (kOf s))
+    && eqb (le32 s 28) (rulesAt (kOf s) (nOf s)) && eqb (le32 s 32) (pairsAt (kOf s) (nOf s) (qOf s))
     && eqb (le32 s 36) (endAt (kOf s) (nOf s) (qOf s) (tOf s))
 
 -- "equal to the bytes lent"
@@ -55,12 +64,12 @@ unless true cause = 0
 unless false cause = cause
 
 -- 5: "link row or sum", 6: "frequency range or order", 7: "rule row or sum", 8: "pair row"
-unfoldable pub sectionCause : List ℕ → ℕ → ℕ → ℕ → ℕ → ℕ
-sectionCause s k n q t =
-    passing (linksOk (drop headerBytes s) k n) 5 λ _.
-    passing (freqsOk (drop headerBytes s) (drop (freqsAt k) s) k) 6 λ _.
-    passing (rulesOk (drop (rulesAt k n) s) k q t) 7 λ _.
-    unless (pairsOk (drop headerBytes s) (drop (rulesAt k n) s) (drop (pairsAt k n q) s) q) 8
+unfoldable pub sectionCause : List ℕ → ℕ
+sectionCause s =
+    passing (linksOk (linkPart s) (kOf s) (nOf s)) 5 λ _.
+    passing (freqsOk (linkPart s) (freqPart s) (kOf s)) 6 λ _.
+    passing (rulesOk (rulePart s) (kOf s) (qOf s) (tOf s)) 7 λ _.
+    unless (pairsOk (linkPart s) (rulePart s) (pairPart s) (qOf s)) 8
 
 -- the first cause that refuses a sheet, or 0
 unfoldable pub refusal : List ℕ → ℕ
@@ -69,4 +78,4 @@ refusal s =
     passing (linkCountOk s) 2 λ _.
     passing (countsOk s) 3 λ _.
     passing (offsetsOk s) 4 λ _.
-    sectionCause s (kOf s) (nOf s) (qOf s) (tOf s)
+    sectionCause s

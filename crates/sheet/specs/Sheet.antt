@@ -2,13 +2,14 @@
 -- The rows' fields are those of `Rows`, crate `sheet_rows`.
 use Prim.Native.Nat.{ℕ, _+_, _-_, _*_}
 use mathlib.Core.List.{List}
-use mathlib.Core.Bool.{Bool, true, false, cond, _&&_, _||_}
+use mathlib.Core.Bool.{Bool, true, false, cond, not, _&&_, _||_}
 use lib.ListN.{drop}
 use lib.Dec.{ltb, leb, eqb}
 use Rattle.sets.specs.Below.{all, sumTo}
 use Rattle.wire.specs.Fields.{le32}
 use Rattle.sheet_rows.specs.Rows.{linkBytes, freqBytes, ruleBytes, pairBytes}
-use Rattle.sheet_rows.specs.Rows.{linkFirst, linkCount, freq, ruleA, ruleB, ruleKind, ruleCount, ruleValue, pairFirst, pairSecond}
+use Rattle.sheet_rows.specs.Rows.{linkFirst, linkCount, freq, ruleA, ruleB, ruleKind, ruleCount, ruleValue}
+use Rattle.sheet_rows.specs.Rows.{pairFirst, pairSecond}
 use Rattle.sheet.specs.declared.Row.{Row}
 use Rattle.sheet.specs.declared.Row.the-variants.{Link, Bad}
 
@@ -72,6 +73,11 @@ rulePart s = drop (rulesAt (kOf s) (nOf s)) s
 abbrev pub pairPart : List ℕ → List ℕ
 pairPart s = drop (pairsAt (kOf s) (nOf s) (qOf s)) s
 
+-- a number where a test holds, else 0
+abbrev pub only : Bool → ℕ → ℕ
+only true n = n
+only false n = 0
+
 -- link rows
 
 -- "First is the sum of earlier counts; count is at least 1", where `sum` is that sum
@@ -85,19 +91,34 @@ linkOk p l = linkRowOk p l (sumTo l (linkCount p))
 unfoldable pub linksOk : List ℕ → ℕ → ℕ → Bool
 linksOk p k n = all k (linkOk p) && eqb (sumTo k (linkCount p)) n
 
--- a link row as the reader hands it on: its two fields where it is right
-abbrev pub rowIf : Bool → Row → Row
-rowIf true row = row
-rowIf false row = Bad
+-- a link row that was read: the paper's number, 0 or refusal 5, and the row's first frequency and count, both 0 where
+-- it is refused
+pub record RowRead : Type 0 where
+  pub number : ℕ
+  pub first : ℕ
+  pub count : ℕ
 
-abbrev pub linkRow : List ℕ → ℕ → ℕ → Row
-linkRow p l sum = rowIf (linkRowOk p l sum) (Link (linkFirst p l) (linkCount p l))
+-- what each case of the reader's enum says
+abbrev pub rowRead : Row → RowRead
+rowRead (Link first count) = record { number = 0; first = first; count = count }
+rowRead Bad = record { number = 5; first = 0; count = 0 }
+
+-- refusal 5 unless a row is right, and its fields only then
+abbrev pub rowIf : Bool → ℕ → ℕ → RowRead
+rowIf right first count =
+    record { number = only (not right) 5; first = only right first; count = only right count }
+
+-- what row l is to say, where `sum` is the sum of earlier counts
+abbrev pub linkRow : List ℕ → ℕ → ℕ → RowRead
+linkRow p l sum = rowIf (linkRowOk p l sum) (linkFirst p l) (linkCount p l)
 
 -- frequencies
 
 -- "1 to 9,999,999, strictly rising within a link": the i-th of a link whose first is at base
 unfoldable pub freqOk : List ℕ → ℕ → ℕ → Bool
-freqOk p base i = ltb 0 (freq p (base + i)) && leb (freq p (base + i)) mostKHz && (eqb i 0 || ltb (freq p (base + i - 1)) (freq p (base + i)))
+freqOk p base i =
+    ltb 0 (freq p (base + i)) && leb (freq p (base + i)) mostKHz
+    && (eqb i 0 || ltb (freq p (base + i - 1)) (freq p (base + i)))
 
 -- the frequencies of link l
 unfoldable pub linkFreqsOk : List ℕ → List ℕ → ℕ → Bool
@@ -118,11 +139,8 @@ plainOk count value = eqb count 0 && ltb 0 value && leb value mostKHz
 
 -- "Kind 3: .. count is at least 1 and value is the sum of earlier kind 3 counts", where `sum` is that sum
 unfoldable pub kindOk : ℕ → ℕ → ℕ → ℕ → Bool
-kindOk kind count value sum = cond (eqb kind 3) (ltb 0 count && eqb value sum) ((eqb kind 1 || eqb kind 2) && plainOk count value)
-
-abbrev pub only : Bool → ℕ → ℕ
-only true n = n
-only false n = 0
+kindOk kind count value sum =
+    cond (eqb kind 3) (ltb 0 count && eqb value sum) ((eqb kind 1 || eqb kind 2) && plainOk count value)
 
 -- how many pairs a rule lists: the count, for kind 3 only
 unfoldable pub listed : List ℕ → ℕ → ℕ
@@ -152,8 +170,8 @@ rulesOk p k q t = all q (ruleOk p k) && eqb (sumTo q (listed p)) t
 unfoldable pub pairRises : List ℕ → ℕ → Bool
 pairRises p i = before (pairFirst p (i - 1)) (pairSecond p (i - 1)) (pairFirst p i) (pairSecond p i)
 
--- "positions (from 0) in the lists of a and of b, strictly rising by (first, second) within a rule": the i-th pair of a rule whose
--- pairs start at base, between links of m and n frequencies
+-- "positions (from 0) in the lists of a and of b, strictly rising by (first, second) within a rule": the i-th pair of a
+-- rule whose pairs start at base, between links of m and n frequencies
 unfoldable pub pairOk : List ℕ → ℕ → ℕ → ℕ → ℕ → Bool
 pairOk p base m n i =
     ltb (pairFirst p (base + i)) m && ltb (pairSecond p (base + i)) n
@@ -161,7 +179,9 @@ pairOk p base m n i =
 
 -- the pairs of rule j
 unfoldable pub rulePairsOk : List ℕ → List ℕ → List ℕ → ℕ → Bool
-rulePairsOk links rules p j = all (listed rules j) (pairOk p (ruleValue rules j) (linkCount links (ruleA rules j)) (linkCount links (ruleB rules j)))
+rulePairsOk links rules p j =
+    all (listed rules j)
+    (pairOk p (ruleValue rules j) (linkCount links (ruleA rules j)) (linkCount links (ruleB rules j)))
 
 unfoldable pub pairsOk : List ℕ → List ℕ → List ℕ → ℕ → Bool
 pairsOk links rules p q = all q (rulePairsOk links rules p)

@@ -1,11 +1,11 @@
 // The frequency section, cause 6.
 ghost use mathlib.Core.Path.{_≡_};
-ghost use mathlib.Core.Bool.{true};
 ghost use Prim.Native.Nat.{_+_, _*_, _≤_};
 ghost use lib.ListN.{length};
 ghost use Rattle.sets.specs.Below.{all};
-ghost use Rattle.sheet_rows.specs.Rows.{HasRow, linkBytes, freqBytes};
-ghost use Rattle.sheet.specs.Sheet.{mostLinks, linksOk, freqOk, freqsOk};
+ghost use Rattle.sheet_rows.specs.Rows.{HasRow, freqBytes};
+ghost use Rattle.sheet.specs.Sheet.{freqOk, freqsOk};
+ghost use Rattle.sheet.specs.Read.{LinksRead};
 use crate::header::MOST_KHZ;
 use sheet_rows::freq;
 use sheet_rows::link_count;
@@ -40,8 +40,8 @@ fn rising(p: &[u8], base: usize, count: usize) -> bool
 }
 
 // The frequency section `p`, after the link section `ls` was accepted.
-pub fn freqs(ls: &[u8], p: &[u8], k: usize, n: usize) -> bool
-    requires { ⌜ (k ≤ mostLinks) × (linkBytes * k ≤ length (now ls)) × (freqBytes * n ≤ length (now p)) × (linksOk (now ls) k n ≡ true) ⌝ }
+pub fn freqs(ls: &[u8], p: &[u8], k: usize) -> bool
+    requires { ⌜ LinksRead (now ls) (now p) k ⌝ }
     ensures { λ r. ⌜ r ≡ freqsOk (now (ls .entry)) (now (p .entry)) k ⌝ }
 {
     let mut l = 0;

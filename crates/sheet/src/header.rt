@@ -4,6 +4,14 @@ ghost use Prim.Native.Nat.{_≤_};
 ghost use lib.ListN.{length};
 ghost use Rattle.sheet.specs.Sheet.{headerBytes};
 ghost use Rattle.sheet.specs.Refusal.{formOk, linkCountOk, countsOk, offsetsOk};
+use crate::places::end_at;
+use crate::places::freqs_at;
+use crate::places::freqs_of;
+use crate::places::links_of;
+use crate::places::pairs_at;
+use crate::places::pairs_of;
+use crate::places::rules_at;
+use crate::places::rules_of;
 use wire::word;
 
 const MOST_LINKS: usize = 64;
@@ -31,7 +39,7 @@ pub fn link_count_ok(s: &[u8]) -> bool
     requires { ⌜ headerBytes ≤ length (now s) ⌝ }
     ensures { λ r. ⌜ r ≡ linkCountOk (now (s .entry)) ⌝ }
 {
-    let k = word(s, 4);
+    let k = links_of(s);
     (0 < k) & (k <= MOST_LINKS)
 }
 
@@ -40,8 +48,8 @@ pub fn counts_ok(s: &[u8]) -> bool
     requires { ⌜ headerBytes ≤ length (now s) ⌝ }
     ensures { λ r. ⌜ r ≡ countsOk (now (s .entry)) ⌝ }
 {
-    let n = word(s, 8);
-    (0 < n) & (n <= MOST_FREQS) & (word(s, 12) <= MOST_RULES) & (word(s, 16) <= MOST_PAIRS)
+    let n = freqs_of(s);
+    (0 < n) & (n <= MOST_FREQS) & (rules_of(s) <= MOST_RULES) & (pairs_of(s) <= MOST_PAIRS)
 }
 
 // Cause 4: the offsets and the length.
@@ -49,13 +57,10 @@ pub fn offsets_ok(s: &[u8]) -> bool
     requires { ⌜ headerBytes ≤ length (now s) ⌝ }
     ensures { λ r. ⌜ r ≡ offsetsOk (now (s .entry)) ⌝ }
 {
-    let freqs_at = 40 + 4 * word(s, 4);
-    let rules_at = freqs_at + 4 * word(s, 8);
-    let pairs_at = rules_at + 12 * word(s, 12);
-    let end = pairs_at + 4 * word(s, 16);
+    let end = end_at(s);
     let offsets = (word(s, 20) == 40)
-        & (word(s, 24) == freqs_at)
-        & (word(s, 28) == rules_at)
-        & (word(s, 32) == pairs_at);
+        & (word(s, 24) == freqs_at(s))
+        & (word(s, 28) == rules_at(s))
+        & (word(s, 32) == pairs_at(s));
     offsets & (word(s, 36) == end) & (s.len() == end)
 }

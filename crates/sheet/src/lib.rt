@@ -1,29 +1,31 @@
-// The reader of job sheets: accepted, or the first cause that refuses the sheet.
+// The reader of job sheets: accepted, or the first cause that refuses the sheet; and where its counts and sections are.
 // The contracts cite `Sheet`, what header and rows have to say, and `Refusal`, the causes 1 to 8 in the order tested.
 mod freq_rows;
 mod header;
 mod link_rows;
 mod pair_rows;
+mod places;
 mod rule_rows;
+mod sections;
 
 ghost use mathlib.Core.Path.{_≡_};
-ghost use Prim.Native.Nat.{_≤_};
-ghost use lib.ListN.{length};
-ghost use Rattle.sheet.specs.Sheet.{mostLinks, mostFreqs, mostRules, mostPairs, endAt};
-ghost use Rattle.sheet.specs.Refusal.{numberOf, sectionCause, refusal};
-use freq_rows::freqs;
+ghost use Rattle.sheet.specs.Refusal.{causeNumber, numberOf, refusal};
 use header::counts_ok;
 use header::form_ok;
 use header::link_count_ok;
 use header::offsets_ok;
-use link_rows::links;
-use pair_rows::pairs;
-use rule_rows::rules;
-use wire::word;
+pub use places::end_at;
+pub use places::freqs_at;
+pub use places::freqs_of;
+pub use places::links_of;
+pub use places::pairs_at;
+pub use places::pairs_of;
+pub use places::rules_at;
+pub use places::rules_of;
+use sections::sections;
 
-// What the reader says of a sheet: accepted, or the first cause that refuses it.
-pub enum Answer {
-    Fine,
+// Why the reader refuses a sheet.
+pub enum Cause {
     Form,
     Links,
     Counts,
@@ -34,70 +36,49 @@ pub enum Answer {
     PairRow,
 }
 
+// What the reader says of a sheet: accepted, or the first cause that refuses it.
+pub enum Reading {
+    Fine,
+    Refused(Cause),
+}
+
 // A link row that keeps its rule, or none.
-pub enum Row {
+enum Row {
     Link { first: usize, count: usize },
     Bad,
 }
 
-// The paper's number for an answer.
-pub fn number(a: Answer) -> u32
-    ensures { λ r. ⌜ r ≡ numberOf a ⌝ }
+// The paper's number for a cause.
+pub fn cause_number(c: Cause) -> u32
+    ensures { λ r. ⌜ r ≡ causeNumber c ⌝ }
 {
-    match a {
-        Answer::Fine => 0,
-        Answer::Form => 1,
-        Answer::Links => 2,
-        Answer::Counts => 3,
-        Answer::Offsets => 4,
-        Answer::LinkRow => 5,
-        Answer::Frequency => 6,
-        Answer::RuleRow => 7,
-        Answer::PairRow => 8,
+    match c {
+        Cause::Form => 1,
+        Cause::Links => 2,
+        Cause::Counts => 3,
+        Cause::Offsets => 4,
+        Cause::LinkRow => 5,
+        Cause::Frequency => 6,
+        Cause::RuleRow => 7,
+        Cause::PairRow => 8,
     }
-}
-
-// The sections of `s`, each read as the part of the sheet that begins at its offset.
-fn sections(s: &[u8], k: usize, n: usize, q: usize, t: usize) -> Answer
-    requires { ⌜ (k ≤ mostLinks) × (n ≤ mostFreqs) × (q ≤ mostRules) × (t ≤ mostPairs) × (length (now s) ≡ endAt k n q t) ⌝ }
-    ensures { λ r. ⌜ numberOf r ≡ sectionCause (now (s .entry)) k n q t ⌝ }
-{
-    let freqs_at = 40 + 4 * k;
-    let rules_at = freqs_at + 4 * n;
-    let pairs_at = rules_at + 12 * q;
-    let ls = &s[40..];
-    let answer = links(ls, k, n);
-    if number(answer) != 0 {
-        return answer;
-    }
-    if !freqs(ls, &s[freqs_at..], k, n) {
-        return Answer::Frequency;
-    }
-    let rs = &s[rules_at..];
-    if !rules(rs, k, q, t) {
-        return Answer::RuleRow;
-    }
-    if !pairs(ls, rs, &s[pairs_at..], k, q, t) {
-        return Answer::PairRow;
-    }
-    Answer::Fine
 }
 
 // The reader, for any bytes.
-pub fn check_sheet(s: &[u8]) -> Answer
+pub fn check_sheet(s: &[u8]) -> Reading
     ensures { λ r. ⌜ numberOf r ≡ refusal (now (s .entry)) ⌝ }
 {
     if !form_ok(s) {
-        return Answer::Form;
+        return Reading::Refused(Cause::Form);
     }
     if !link_count_ok(s) {
-        return Answer::Links;
+        return Reading::Refused(Cause::Links);
     }
     if !counts_ok(s) {
-        return Answer::Counts;
+        return Reading::Refused(Cause::Counts);
     }
     if !offsets_ok(s) {
-        return Answer::Offsets;
+        return Reading::Refused(Cause::Offsets);
     }
-    sections(s, word(s, 4), word(s, 8), word(s, 12), word(s, 16))
+    sections(s)
 }

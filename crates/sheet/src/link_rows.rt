@@ -3,9 +3,10 @@ ghost use mathlib.Core.Path.{_≡_};
 ghost use Prim.Native.Nat.{_*_, _≤_};
 ghost use lib.ListN.{length};
 ghost use Rattle.sheet_rows.specs.Rows.{HasRow, linkBytes};
-ghost use Rattle.sheet.specs.Sheet.{mostLinks, linksOk, linkRow};
+ghost use Rattle.sheet.specs.Sheet.{mostLinks, linksOk, linkRow, rowRead};
 ghost use Rattle.sheet.specs.Refusal.{numberOf, unless};
-use crate::Answer;
+use crate::Cause;
+use crate::Reading;
 use crate::Row;
 use sheet_rows::link_count;
 use sheet_rows::link_first;
@@ -13,7 +14,7 @@ use sheet_rows::link_first;
 // Link row l, where it keeps its rule; `sum` is the sum of the earlier counts.
 fn link_row(p: &[u8], l: usize, sum: usize) -> Row
     requires { ⌜ HasRow linkBytes (now p) l ⌝ }
-    ensures { λ r. ⌜ r ≡ linkRow (now (p .entry)) l sum ⌝ }
+    ensures { λ r. ⌜ rowRead r ≡ linkRow (now (p .entry)) l sum ⌝ }
 {
     let first = link_first(p, l);
     let count = link_count(p, l);
@@ -27,7 +28,7 @@ fn link_row(p: &[u8], l: usize, sum: usize) -> Row
 }
 
 // The link section.
-pub fn links(p: &[u8], k: usize, n: usize) -> Answer
+pub fn links(p: &[u8], k: usize, n: usize) -> Reading
     requires { ⌜ (k ≤ mostLinks) × (linkBytes * k ≤ length (now p)) ⌝ }
     ensures { λ r. ⌜ numberOf r ≡ unless (linksOk (now (p .entry)) k n) 5 ⌝ }
 {
@@ -35,14 +36,14 @@ pub fn links(p: &[u8], k: usize, n: usize) -> Answer
     let mut l = 0;
     while l < k {
         let Row::Link { first, count } = link_row(p, l, sum) else {
-            return Answer::LinkRow;
+            return Reading::Refused(Cause::LinkRow);
         };
         sum += count;
         l += 1;
     }
     if sum == n {
-        Answer::Fine
+        Reading::Fine
     } else {
-        Answer::LinkRow
+        Reading::Refused(Cause::LinkRow)
     }
 }

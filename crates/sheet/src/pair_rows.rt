@@ -1,11 +1,11 @@
 // The pair section, cause 8.
 ghost use mathlib.Core.Path.{_≡_};
-ghost use mathlib.Core.Bool.{true};
 ghost use Prim.Native.Nat.{_+_, _*_, _<_, _≤_};
 ghost use lib.ListN.{length};
 ghost use Rattle.sets.specs.Below.{all};
-ghost use Rattle.sheet_rows.specs.Rows.{HasRow, linkBytes, ruleBytes, pairBytes};
-ghost use Rattle.sheet.specs.Sheet.{mostLinks, mostRules, rulesOk, pairRises, pairOk, rulePairsOk, pairsOk};
+ghost use Rattle.sheet_rows.specs.Rows.{HasRow, pairBytes};
+ghost use Rattle.sheet.specs.Sheet.{pairRises, pairOk, rulePairsOk, pairsOk};
+ghost use Rattle.sheet.specs.Read.{RuleRead, RulesRead};
 use crate::rule_rows::comes_before;
 use crate::rule_rows::listed;
 use sheet_rows::link_count;
@@ -58,8 +58,8 @@ fn pairs_rise(p: &[u8], base: usize, m: usize, n: usize, count: usize) -> bool
 }
 
 // The pairs of rule j, after the rule section `rs` was accepted.
-fn rule_pairs(ls: &[u8], rs: &[u8], p: &[u8], k: usize, q: usize, t: usize, j: usize) -> bool
-    requires { ⌜ (j < q) × (q ≤ mostRules) × (k ≤ mostLinks) × (linkBytes * k ≤ length (now ls)) × (ruleBytes * q ≤ length (now rs)) × (pairBytes * t ≤ length (now p)) × (rulesOk (now rs) k q t ≡ true) ⌝ }
+fn rule_pairs(ls: &[u8], rs: &[u8], p: &[u8], j: usize) -> bool
+    requires { ⌜ RuleRead (now ls) (now rs) (now p) j ⌝ }
     ensures { λ r. ⌜ r ≡ rulePairsOk (now (ls .entry)) (now (rs .entry)) (now (p .entry)) j ⌝ }
 {
     let count = listed(rs, j);
@@ -75,13 +75,13 @@ fn rule_pairs(ls: &[u8], rs: &[u8], p: &[u8], k: usize, q: usize, t: usize, j: u
 }
 
 // The pair section `p`, after the link section `ls` and the rule section `rs` were accepted.
-pub fn pairs(ls: &[u8], rs: &[u8], p: &[u8], k: usize, q: usize, t: usize) -> bool
-    requires { ⌜ (q ≤ mostRules) × (k ≤ mostLinks) × (linkBytes * k ≤ length (now ls)) × (ruleBytes * q ≤ length (now rs)) × (pairBytes * t ≤ length (now p)) × (rulesOk (now rs) k q t ≡ true) ⌝ }
+pub fn pairs(ls: &[u8], rs: &[u8], p: &[u8], q: usize) -> bool
+    requires { ⌜ RulesRead (now ls) (now rs) (now p) q ⌝ }
     ensures { λ r. ⌜ r ≡ pairsOk (now (ls .entry)) (now (rs .entry)) (now (p .entry)) q ⌝ }
 {
     let mut j = 0;
     while j < q {
-        if !rule_pairs(ls, rs, p, k, q, t, j) {
+        if !rule_pairs(ls, rs, p, j) {
             return false;
         }
         j += 1;

@@ -3,7 +3,8 @@
 ghost use mathlib.Core.Path.{_≡_};
 ghost use Prim.Native.Nat.{_<_};
 ghost use Rattle.sheet_rows.specs.Rows.{HasRow, linkBytes, freqBytes, ruleBytes, pairBytes};
-ghost use Rattle.sheet_rows.specs.Rows.{linkFirst, linkCount, freq as freqOf, ruleA, ruleB, ruleKind, ruleCount, ruleValue, pairFirst, pairSecond};
+ghost use Rattle.sheet_rows.specs.Rows.{linkFirst, linkCount, freq as freqOf, pairFirst, pairSecond};
+ghost use Rattle.sheet_rows.specs.Rows.{ruleA, ruleB, ruleKind, ruleCount, ruleValue};
 use wire::half;
 use wire::word;
 

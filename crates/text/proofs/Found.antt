@@ -1,44 +1,27 @@
--- The sheet of a plan that was found was accepted, and so its number of links is that of its header.
-use mathlib.Core.Path.{_≡_, refl, sym, ap, _∙_}
-use mathlib.Core.Bool.{Bool, true, false}
+-- The sheet of a plan that was found was accepted, and there is a cell for each of its links.
+use mathlib.Core.Path.{_≡_, sym, ap, _∙_}
 use mathlib.Core.List.{List}
 use Prim.Native.Nat.{ℕ, _≤_}
-use native.Mathlib.Omega.{arith}
-use lib.Dec.{eqb}
-use lib.ListN.{length}
-use borrow.Author.Tests.{eqb-true, eqb-false}
 use Rattle.sheet.specs.Sheet.{kOf}
-use Rattle.sheet.proofs.Accepted.{accepted}
-use Rattle.planner.specs.Outcome.{Outcome, outcome}
-use Rattle.planner.specs.Planned.{verdictNumber, Gives}
+use Rattle.sheet.specs.Refusal.{refusal}
+use Rattle.rules.specs.Job.{jobOf}
+use Rattle.setting.specs.Setting.{Setting}
+use Rattle.planner.specs.Outcome.{outcome}
+use Rattle.planner.specs.Planned.{Gives, verdictNumber, gave}
 use Rattle.planner.specs.declared.Planned.{Planned}
-use Rattle.planner.specs.Text.{printedOf}
-use Rattle.planner.specs.CallDemands.{tells}
-use Rattle.planner.proofs.Accepted.{Call, call-accepted}
+use Rattle.planner.proofs.Accepted.{call-accepted}
+use Rattle.planner.proofs.Outcomes.{gave-outcome}
 use Rattle.planner.proofs.Found.{found-accepted}
-use Rattle.planner.proofs.CallDemands.{told-outcome}
-use Rattle.text.proofs.Answers.{printed-any}
+use Rattle.text.specs.Text.{printedOf}
 
-module _ (s : List ℕ) (filter choice limit : ℕ) (callers : List ℕ) (m w : ℕ) where
-  abbrev o : Outcome
-  o = outcome s filter choice limit callers m w
-
-  found : o .answer ≡ 100 → Call s filter choice limit callers m w
-  found e = call-accepted s filter choice limit callers m w (found-accepted s filter choice limit callers m w e)
-
-  -- what the program knows of a plan that was found: j is the number of links in a header that is there
-  pub found-links : (j : ℕ) {r : Planned} {cells : List ℕ} → (40 ≤ length s → j ≡ kOf s) → Gives o r cells → verdictNumber (r .verdict) ≡ 100 → (j ≤ m) × (j ≤ 64)
-  found-links j h g e =
-      let c = found (sym (g .answer) ∙ e) in
-      let a = accepted s (c .sheet) in
-      let k = h (a .head .long) in
-      (omega (arith, c .cells), omega (arith, a .head .k-small))
+module _ (s : List ℕ) (x : Setting) (m w : ℕ) where
+  pub found-links : {r : Planned} {cells : List ℕ} → Gives (outcome (jobOf s) x m w) r cells
+      → verdictNumber (r .verdict) ≡ 100 → (refusal s ≡ 0) × (kOf s ≤ m)
+  found-links g e =
+      let c = call-accepted (jobOf s) x m w (found-accepted (jobOf s) x m w (sym (g .answer) ∙ e)) in
+      (c .sheet, c .cells)
 
   -- the text of what was given is the text of the outcome
-  pub given-text : (j : ℕ) {r : Planned} {cells : List ℕ} → (40 ≤ length s → j ≡ kOf s) → Gives o r cells
-      → printedOf (kOf s) o ≡ printedOf j (tells r cells)
-  given-text j {r} {cells} h g = go (eqb (o .answer) 100) refl ∙ ap (λ x. printedOf j x) (told-outcome g)
-    where
-      go : (b : Bool) → eqb (o .answer) 100 ≡ b → printedOf (kOf s) o ≡ printedOf j o
-      go true q = ap (λ k. printedOf k o) (sym (h (accepted s (found (eqb-true (o .answer) 100 q) .sheet) .head .long)))
-      go false q = printed-any o (kOf s) j (eqb-false (o .answer) 100 q)
+  pub given-text : {r : Planned} {cells : List ℕ} → Gives (outcome (jobOf s) x m w) r cells
+      → printedOf (kOf s) (outcome (jobOf s) x m w) ≡ printedOf (kOf s) (gave r cells)
+  given-text g = ap (λ o. printedOf (kOf s) o) (gave-outcome g)

@@ -1,22 +1,23 @@
--- A sheet has at most 59,304 bytes. What follows in a longer one changes nothing: it is refused by its header or its length, so the program
--- may read it in part.
+-- A sheet has at most 59,304 bytes. What follows in a longer one changes nothing: it is refused by its header or its
+-- length, so the program may read it in part.
 use mathlib.Core.Path.{_≡_, refl, sym, ap, _∙_}
 use mathlib.Core.Bool.{Bool, true, false, _&&_}
-use mathlib.Core.List.{List, []}
+use mathlib.Core.List.{List}
 use Prim.Native.Nat.{ℕ, _+_, _≤_, _<_}
 use native.Mathlib.Omega.{arith}
 use lib.Dec.{eqb, ltb, leb}
-use lib.ListN.{length, take}
+use lib.ListN.{length, take, getD}
 use lib.Seq.{getD-take, length-take-le}
 use borrow.Author.Tests.{ne-eqb, leb-true, le-leb}
 use Rattle.sets.proofs.Tests.{and-l, and-r}
 use Rattle.wire.specs.Fields.{le32}
 use Rattle.sheet.specs.Sheet.{headerBytes, mostLinks, mostFreqs, mostRules, mostPairs, kOf, nOf, qOf, tOf, endAt}
 use Rattle.sheet.specs.Refusal.{formOk, linkCountOk, countsOk, tableOk, offsetsOk, passing, sectionCause, refusal}
-use Rattle.planner.specs.Outcome.{Outcome, outcome, callRefusal, workWords, refused}
-use Rattle.planner.specs.Text.{printedOf, printed}
-use Rattle.planner.proofs.Outcomes.{sheet-cause}
-use Rattle.planner.proofs.Demands.{demand1}
+use Rattle.rules.specs.Job.{jobOf}
+use Rattle.work_words.specs.Layout.{workWords}
+use Rattle.planner.specs.Outcome.{outcome, refused}
+use Rattle.planner.proofs.Outcomes.{sheet-cause, outcome-refused}
+use Rattle.text.specs.Text.{programSetting, printedOf, printed}
 use Rattle.text.proofs.Answers.{printed-any}
 
 -- the refusal of a sheet that is too long, by its header
@@ -27,7 +28,8 @@ front-some : (s : List ℕ) → (0 < front s) × (front s ≤ 4)
 unfolding front
 front-some s = go (eqb (le32 s 0) 1) (linkCountOk s) (countsOk s)
   where
-    go : (a b c : Bool) → (0 < passing a 1 (λ _. passing b 2 λ _. passing c 3 λ _. 4)) × (passing a 1 (λ _. passing b 2 λ _. passing c 3 λ _. 4) ≤ 4)
+    go : (a b c : Bool) → (0 < passing a 1 (λ _. passing b 2 λ _. passing c 3 λ _. 4))
+        × (passing a 1 (λ _. passing b 2 λ _. passing c 3 λ _. 4) ≤ 4)
     go true true true = (omega arith, omega arith)
     go true true false = (omega arith, omega arith)
     go true false c = (omega arith, omega arith)
@@ -37,12 +39,15 @@ module _ (s : List ℕ) (long : 59304 < length s) where
   past-end : linkCountOk s ≡ true → countsOk s ≡ true → offsetsOk s ≡ false
   unfolding linkCountOk countsOk offsetsOk
   past-end h g =
+      let end = endAt (kOf s) (nOf s) (qOf s) (tOf s) in
+      let a = ltb 0 (nOf s) && leb (nOf s) mostFreqs in
+      let b = a && leb (qOf s) mostRules in
       let k = leb-true (kOf s) mostLinks (and-r (ltb 0 (kOf s)) _ h) in
-      let t = leb-true (tOf s) mostPairs (and-r (ltb 0 (nOf s) && leb (nOf s) mostFreqs && leb (qOf s) mostRules) _ g) in
-      let a = and-l (ltb 0 (nOf s) && leb (nOf s) mostFreqs && leb (qOf s) mostRules) (leb (tOf s) mostPairs) g in
-      let q = leb-true (qOf s) mostRules (and-r (ltb 0 (nOf s) && leb (nOf s) mostFreqs) _ a) in
-      let n = leb-true (nOf s) mostFreqs (and-r (ltb 0 (nOf s)) _ (and-l (ltb 0 (nOf s) && leb (nOf s) mostFreqs) (leb (qOf s) mostRules) a)) in
-      no-and (tableOk s) _ (ne-eqb (length s) (endAt (kOf s) (nOf s) (qOf s) (tOf s)) (λ e. absurd (omega arith)))
+      let t = leb-true (tOf s) mostPairs (and-r b _ g) in
+      let e = and-l b (leb (tOf s) mostPairs) g in
+      let q = leb-true (qOf s) mostRules (and-r a _ e) in
+      let n = leb-true (nOf s) mostFreqs (and-r (ltb 0 (nOf s)) _ (and-l a (leb (qOf s) mostRules) e)) in
+      no-and (tableOk s) _ (ne-eqb (length s) end (λ e. absurd (omega arith)))
     where
       no-and : (a b : Bool) → b ≡ false → (a && b) ≡ false
       no-and true b e = e
@@ -52,38 +57,55 @@ module _ (s : List ℕ) (long : 59304 < length s) where
   unfolding refusal formOk front
   by-header = rw (le-leb headerBytes (length s) (omega arith)) (go (linkCountOk s) (countsOk s) refl refl)
     where
-      rest : Unit {0} → ℕ
-      rest _ = sectionCause s (kOf s) (nOf s) (qOf s) (tOf s)
+      form : (Unit {0} → ℕ) → ℕ
+      form after = passing (eqb (le32 s 0) 1) 1 after
 
       go : (b c : Bool) → linkCountOk s ≡ b → countsOk s ≡ c
-          → passing (eqb (le32 s 0) 1) 1 (λ _. passing b 2 λ _. passing c 3 λ _. passing (offsetsOk s) 4 rest) ≡ passing (eqb (le32 s 0) 1) 1 (λ _. passing b 2 λ _. passing c 3 λ _. 4)
-      go true true h g = ap (λ d. passing (eqb (le32 s 0) 1) 1 (λ _. passing d 4 rest)) (past-end h g)
+          → form (λ _. passing b 2 λ _. passing c 3 λ _. passing (offsetsOk s) 4 λ _. sectionCause s)
+          ≡ form (λ _. passing b 2 λ _. passing c 3 λ _. 4)
+      go true true h g = ap (λ d. form (λ _. passing d 4 λ _. sectionCause s)) (past-end h g)
       go true false h g = refl
       go false c h g = refl
 
   front-more : front s ≡ 0 → ⊥
   front-more e = absurd (omega (arith, front-some s .0))
 
-  too-long : outcome s 7 0 1000000 [] mostLinks workWords ≡ refused (front s) mostLinks
+  too-long : outcome (jobOf s) programSetting mostLinks workWords ≡ refused (front s) mostLinks
   too-long =
-      let e = sheet-cause s 7 0 1000000 [] mostLinks workWords (λ q. front-more (sym by-header ∙ q)) ∙ by-header in
-      demand1 .refused s 7 0 1000000 [] mostLinks workWords (λ q. front-more (sym e ∙ q)) ∙ ap (λ r. refused r mostLinks) e
+      let at = sheet-cause (jobOf s) programSetting mostLinks workWords in
+      let e = at (λ q. front-more (sym by-header ∙ q)) ∙ by-header in
+      outcome-refused (jobOf s) programSetting mostLinks workWords (λ q. front-more (sym e ∙ q))
+      ∙ ap (λ r. refused r mostLinks) e
 
 module _ (s : List ℕ) (m : ℕ) (long : 59304 < m) (within : m ≤ length s) where
+  same-byte : (i : ℕ) → i ≤ 19 → getD (take m s) i 0 ≡ getD s i 0
+  same-byte i h = getD-take m s i 0 (omega arith)
+
   field : (i : ℕ) → i ≤ 16 → le32 (take m s) i ≡ le32 s i
-  field i h = rw (getD-take m s i 0 (omega arith), getD-take m s (i + 1) 0 (omega arith), getD-take m s (i + 2) 0 (omega arith), getD-take m s (i + 3) 0 (omega arith)) refl
+  field i h =
+      let a = same-byte i (omega arith) in
+      let b = same-byte (i + 1) (omega arith) in
+      let c = same-byte (i + 2) (omega arith) in
+      let d = same-byte (i + 3) (omega arith) in
+      rw (a, b, c, d) refl
 
   same-front : front (take m s) ≡ front s
   unfolding front linkCountOk countsOk
-  same-front = rw (field 0 (omega arith), field 4 (omega arith), field 8 (omega arith), field 12 (omega arith), field 16 (omega arith)) refl
+  same-front =
+      let k = field 4 (omega arith) in
+      let n = field 8 (omega arith) in
+      let q = field 12 (omega arith) in
+      let t = field 16 (omega arith) in
+      rw (field 0 (omega arith), k, n, q, t) refl
 
   -- the first m bytes give the text of the whole
   pub same-text : printed (take m s) ≡ printed s
   unfolding printed
   same-text =
       let l = length-take-le m s within in
-      ap (λ o. printedOf (kOf (take m s)) o) (too-long (take m s) (omega arith) ∙ ap (λ r. refused r mostLinks) same-front)
-      ∙ printed-any (refused (front s) mostLinks) (kOf (take m s)) (kOf s) (λ e. few (front-some s .1) e)
+      let k = kOf (take m s) in
+      ap (λ o. printedOf k o) (too-long (take m s) (omega arith) ∙ ap (λ r. refused r mostLinks) same-front)
+      ∙ printed-any (refused (front s) mostLinks) k (kOf s) (λ e. few (front-some s .1) e)
       ∙ ap (λ o. printedOf (kOf s) o) (sym (too-long s (omega arith)))
     where
       few : front s ≤ 4 → front s ≡ 100 → ⊥

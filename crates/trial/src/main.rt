@@ -1,151 +1,195 @@
-// The test program: the planner's calls beside the known results, the refusals at their first and last values, and a brute-force solver that
-// is written apart from the planner. It prints what it compared, and stops at the first difference.
+// The test program: the planner's calls beside the rows of its input, and beside a brute-force solver that is written
+// apart from the planner. It prints what it compared, and stops at the first difference.
+mod beside;
+mod calls;
+mod input;
+mod lines;
+mod report;
 mod small;
 
-use trial_calls::beside::LAYERED;
-use trial_calls::beside::NODE_SUMS;
-use trial_calls::beside::REFUSED;
-use trial_calls::beside::WITH;
-use trial_calls::calls::CALLS;
-use trial_calls::calls::CHECKS;
-use trial_calls::report::cell;
-use trial_calls::report::item;
-use trial_calls::report::text;
-use trial_job::total::get;
-use trial_job::total::plus;
+use calls::more;
+use input::EQUALS;
+use input::line_end;
+use input::next;
+use input::next_run;
+use input::read;
+use libc::STDIN_FILENO;
+use lines::row_on_sheet;
+use report::item;
+use report::number;
+use report::text;
+use small::small_sheets;
+use trial_job::first_bytes;
+use trial_job::get;
+use trial_job::kept::AT;
+use trial_job::kept::CALLS;
+use trial_job::kept::CHECKS;
+use trial_job::kept::FREQUENCIES;
+use trial_job::kept::K;
+use trial_job::kept::LAYERED;
+use trial_job::kept::LINKS;
+use trial_job::kept::LIST;
+use trial_job::kept::LISTED;
+use trial_job::kept::N;
+use trial_job::kept::NODE_SUMS;
+use trial_job::kept::PAIRS;
+use trial_job::kept::Q;
+use trial_job::kept::REFUSED;
+use trial_job::kept::ROOM;
+use trial_job::kept::ROWS;
+use trial_job::kept::RULES;
+use trial_job::kept::T;
+use trial_job::kept::WITH;
+use trial_job::make_even;
+use trial_job::plus;
+use trial_job::put;
+use trial_job::times;
 
-// The number of small sheets.
-const SHEETS: usize = 3000;
+// The words that begin the other rows, by their first bytes.
+const EVEN: usize = 101;
 
-fn print_calls(tally: &[usize]) {
-    item(b" ", get(tally, CALLS), b" calls of planning");
-    item(b", ", get(tally, CHECKS), b" of the check\n");
-}
+const LISTS: usize = 108;
 
-// A group: what was compared, or that it stopped.
-fn print_group(name: &[u8], same: bool, tally: &[usize]) {
-    text(name);
-    if same {
-        text(b":");
-        print_calls(tally);
-    } else {
-        text(b": stopped at a difference\n");
-    }
-}
+const RANDOM: usize = 114;
 
-fn listed() -> bool {
-    let mut tally = [0usize; 32];
-    let same = trial_tables::known::listed_rows(&mut tally);
-    print_group(b"sheets with known results", same, &tally);
-    same
-}
+const SHEET: usize = 115;
 
-fn examples() -> bool {
-    let mut tally = [0usize; 32];
-    let same = trial_tables::known::example_rows(&mut tally);
-    print_group(
-        b"document 000, examples 1 and 3, every filter number and choice",
-        same,
-        &tally,
-    );
-    same
-}
-
-fn telling() -> bool {
-    let mut tally = [0usize; 32];
-    let same = trial_tables::known::telling_rows(&mut tally);
-    print_group(b"sheets on which a slip shows", same, &tally);
-    same
-}
-
-fn known_beside() -> bool {
-    let mut tally = [0usize; 32];
-    let same = trial_tables::known::all_beside(&mut tally);
-    print_group(b"these sheets beside the brute-force solver", same, &tally);
-    same
-}
-
-fn refused() -> bool {
-    let mut tally = [0usize; 32];
-    let same = trial_tables::refusals::refused_rows(&mut tally);
-    print_group(b"refusals at their first and last values", same, &tally);
-    same
-}
-
-fn large_ones() -> bool {
-    let mut tally = [0usize; 32];
-    let same = trial_tables::large::large_sheets(&mut tally);
-    print_group(b"sheets at the limits, up to 59,304 bytes", same, &tally);
-    same
-}
-
-fn print_small(done: usize, tally: &[usize]) {
-    item(b"small sheets: ", done, b", ");
-    item(b"", get(tally, WITH), b" with a plan, ");
-    item(
-        b"",
-        get(tally, LAYERED),
-        b" with more than k greedy classes, ",
-    );
-    item(b"", get(tally, REFUSED), b" with a refused class list\n");
-}
-
-// Eight numbers kept, from `at` on.
-fn print_eight(tally: &[usize], at: usize) {
+fn print_nodes(kept: &[usize], choice: usize) {
+    let at = plus(NODE_SUMS, times(8, choice));
+    item(b"nodes under filter numbers 0 to 7, choice", choice);
+    text(b":");
     let mut i = 0;
     while i < 8 {
-        cell(get(tally, plus(at, i)));
+        number(get(kept, plus(at, i)));
         i += 1;
     }
-}
-
-fn print_nodes(choice: usize, tally: &[usize]) {
-    item(
-        b"nodes of choice ",
-        choice,
-        b" under filter numbers 0 to 7:",
-    );
-    print_eight(tally, NODE_SUMS + 8 * (choice % 3));
     text(b"\n");
 }
 
-fn small_ones() -> bool {
-    let mut tally = [0usize; 32];
-    let mut seed = 1;
-    let done = small::small_sheets(SHEETS, &mut tally, &mut seed);
-    print_small(done, &tally);
-    print_nodes(0, &tally);
-    print_nodes(1, &tally);
-    print_nodes(2, &tally);
-    print_group(
-        b"small sheets beside the brute-force solver",
-        done == SHEETS,
-        &tally,
-    );
-    done == SHEETS
+fn print_small(kept: &[usize]) {
+    item(b"small sheets with a plan:", get(kept, WITH));
+    item(b"; with more than k greedy classes:", get(kept, LAYERED));
+    item(b"; with a refused class list:", get(kept, REFUSED));
+    text(b"\n");
+    print_nodes(kept, 0);
+    print_nodes(kept, 1);
+    print_nodes(kept, 2);
+}
+
+// `random`: so many small sheets beside the brute-force solver.
+fn random_row(kept: &mut [usize], m: usize) -> bool {
+    let mut counted = [0usize; ROOM];
+    if !small_sheets(&mut counted, m) {
+        return false;
+    }
+    print_small(&counted);
+    put(kept, CALLS, get(&counted, CALLS));
+    put(kept, CHECKS, get(&counted, CHECKS));
+    true
+}
+
+fn print_part(words: &[u8], from: usize, end: usize) {
+    if end < from {
+        return;
+    }
+    if words.len() < end {
+        return;
+    }
+    text(&words[from..end]);
+}
+
+// A line that begins with `=`: its text, and the calls since the last such line.
+fn print_line(words: &[u8], kept: &mut [usize]) {
+    let from = next(kept);
+    print_part(words, from, line_end(words, from));
+    item(b"; calls of planning:", get(kept, CALLS));
+    item(b", of the check:", get(kept, CHECKS));
+    text(b"\n");
+    put(kept, CALLS, 0);
+    put(kept, CHECKS, 0);
+    put(kept, ROWS, 0);
+}
+
+// The counts, and then the fields in the sheet's order.
+fn read_job(job: &mut [usize]) {
+    next_run(job, K, 4);
+    next_run(job, LINKS, times(2, get(job, K)));
+    next_run(job, FREQUENCIES, get(job, N));
+    read_rules(job);
+}
+
+fn read_rules(job: &mut [usize]) {
+    next_run(job, RULES, times(5, get(job, Q)));
+    next_run(job, PAIRS, times(2, get(job, T)));
+}
+
+fn read_list(kept: &mut [usize]) {
+    let m = next(kept);
+    next_run(kept, LIST, m);
+    put(kept, LISTED, m);
+}
+
+// A row. Says whether all was as wanted.
+fn row(kept: &mut [usize], word: usize) -> bool {
+    if word == SHEET {
+        read_job(kept);
+        return true;
+    }
+    if word == EVEN {
+        next_run(kept, K, 4);
+        make_even(kept);
+        return true;
+    }
+    if word == LISTS {
+        read_list(kept);
+        return true;
+    }
+    if word == RANDOM {
+        let m = next(kept);
+        return random_row(kept, m);
+    }
+    row_on_sheet(kept, word)
+}
+
+// A row, or a line to print.
+fn row_or_line(words: &[u8], kept: &mut [usize]) -> bool {
+    let word = next(kept);
+    if word == EQUALS {
+        print_line(words, kept);
+        return true;
+    }
+    more(kept, ROWS);
+    row(kept, word)
+}
+
+// The rows of an input of m words and numbers, up to a difference.
+fn rows_of(words: &[u8], kept: &mut [usize], m: usize) -> bool {
+    let mut i = 0;
+    while i < m {
+        if m <= get(kept, AT) {
+            return true;
+        }
+        if !row_or_line(words, kept) {
+            return false;
+        }
+        i += 1;
+    }
+    true
+}
+
+fn run(words: &[u8], kept: &mut [usize]) {
+    let m = read(words, kept);
+    if rows_of(words, kept, m) {
+        text(b"no difference\n");
+        return;
+    }
+    item(b"stopped in row", get(kept, ROWS));
+    text(b" after the last line\n");
 }
 
 fn main() {
-    if !listed() {
-        return;
-    }
-    if !examples() {
-        return;
-    }
-    if !telling() {
-        return;
-    }
-    if !known_beside() {
-        return;
-    }
-    if !refused() {
-        return;
-    }
-    if !large_ones() {
-        return;
-    }
-    if !small_ones() {
-        return;
-    }
-    text(b"no difference\n");
+    let mut words = [0u8; 65536];
+    let mut kept = [0usize; ROOM];
+    let n = io::read_full(STDIN_FILENO, &mut words);
+    run(first_bytes(&words, n), &mut kept);
 }

@@ -130,7 +130,8 @@ pub trailing-at : (n w : ℕ) → trailingZeros n w < n → bit w (trailingZeros
 trailing-at zero w h = absurd (omega arith)
 trailing-at (suc n) w h = go (trailing-at n (w / 2)) (low w)
   where
-    go : (trailingZeros n (w / 2) < n → bit (w / 2) (trailingZeros n (w / 2)) ≡ true) → (w % 2 ≡ 0) ⊎ (w % 2 ≡ 1) → bit w (trailingZeros (suc n) w) ≡ true
+    go : (trailingZeros n (w / 2) < n → bit (w / 2) (trailingZeros n (w / 2)) ≡ true) → (w % 2 ≡ 0) ⊎ (w % 2 ≡ 1)
+        → bit w (trailingZeros (suc n) w) ≡ true
     go ih (inl e) = rw (trailing-even n w e, bit-suc) (ih (omega (arith, trailing-even n w e)))
     go ih (inr e) = rw (trailing-odd n w e, bit-zero, e)
 
@@ -139,6 +140,7 @@ pub trailing-lt : (n w : ℕ) → w < 2 ^ n → (w ≡ 0 → ⊥) → trailingZe
 trailing-lt zero w h ne = absurd (ne (omega arith))
 trailing-lt (suc n) w h ne = go (trailing-lt n (w / 2)) (low w)
   where
-    go : (w / 2 < 2 ^ n → (w / 2 ≡ 0 → ⊥) → trailingZeros n (w / 2) < n) → (w % 2 ≡ 0) ⊎ (w % 2 ≡ 1) → trailingZeros (suc n) w < suc n
+    go : (w / 2 < 2 ^ n → (w / 2 ≡ 0 → ⊥) → trailingZeros n (w / 2) < n) → (w % 2 ≡ 0) ⊎ (w % 2 ≡ 1)
+        → trailingZeros (suc n) w < suc n
     go ih (inl e) = omega (arith, trailing-even n w e, ih (omega (arith, pow-suc 2 n)) (λ q. ne (omega arith)))
     go ih (inr e) = omega (arith, trailing-odd n w e)

@@ -33,7 +33,14 @@ unfolding count ones
 count-bits zero w h = rw (lt-one h)
 count-bits (suc n) w h =
     ap (λ (m : ℕ). count m (bit w)) (sym (one-add n))
-    ∙ omega (arith, count-add 1 n (bit w), count-low w, count-high n w, count-bits n (w / 2) (omega (arith, pow-suc 2 n)), ones-step w)
+    ∙ omega (
+      arith,
+      count-add 1 n (bit w),
+      count-low w,
+      count-high n w,
+      count-bits n (w / 2) (omega (arith, pow-suc 2 n)),
+      ones-step w,
+    )
 
 -- one word more
 pub count-word : {S : Set} {i x : ℕ} → Word S i x → x < 2 ^ 64 → count (64 * (i + 1)) S ≡ count (64 * i) S + ones x

@@ -31,7 +31,8 @@ module _ {S : Set} {i x : ℕ} (W : Word S i x) where
         let q : v ≡ 64 * i + k + j = omega arith in
         ap S q ∙ word-shr j (omega arith) ∙ ap (λ (w : ℕ). bit w j) e ∙ bit-none j
 
-    pub least-in : (n : ℕ) → i < n → x < 2 ^ 64 → (x / 2 ^ k ≡ 0 → ⊥) → Least S (64 * i + k) (64 * n) (64 * i + k + trailingZeros 64 (x / 2 ^ k))
+    pub least-in : (n : ℕ) → i < n → x < 2 ^ 64 → (x / 2 ^ k ≡ 0 → ⊥)
+        → Least S (64 * i + k) (64 * n) (64 * i + k + trailingZeros 64 (x / 2 ^ k))
     least-in n h b ne = record {
       after = omega arith;
       within = omega (arith, small);
@@ -85,7 +86,8 @@ none-all {S} {n} p q v = go (decLt v n)
     go (no m) = q .past v (omega arith)
 
 -- nothing from `from` to `here`: the least member from `here` on is the least from `from` on
-pub least-from : {S : Set} {here n r : ℕ} (from : ℕ) → from ≤ here → None S from here → Least S here n r → Least S from n r
+pub least-from : {S : Set} {here n r : ℕ} (from : ℕ) → from ≤ here → None S from here → Least S here n r
+    → Least S from n r
 least-from {S} {here} {n} {r} from l h L = record {
   after = omega arith;
   within = L .within;

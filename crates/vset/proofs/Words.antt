@@ -1,5 +1,5 @@
--- Laws of the set that a row of words keeps. `Word S i x` says that the word x keeps part i of S, the vertices from 64 * i to 64 * i + 63,
--- whatever row or operation x comes from, and every law below goes through it.
+-- Laws of the set that a row of words keeps. `Word S i x` says that the word x keeps part i of S, the vertices from 64
+-- * i to 64 * i + 63, whatever row or operation x comes from, and every law below goes through it.
 use Prim.Native.Nat.{ℕ, _+_, _-_, _*_, _/_, _%_, _^_, _≤_, _<_}
 use mathlib.Core.Bool.{false}
 use mathlib.Core.List.{List}
@@ -104,7 +104,8 @@ unfolding just
 just-other v u n = ne-eqb u v (λ q. n (omega arith))
 
 -- a row keeps S where each of its words does, and S has nothing past its end
-pub row-keeps : (ws : List ℕ) (S : Set) → ((j : ℕ) → j < length ws → Word S j (getD ws j 0)) → Ends S (64 * length ws) → has ws ≡ S
+pub row-keeps : (ws : List ℕ) (S : Set) → ((j : ℕ) → j < length ws → Word S j (getD ws j 0)) → Ends S (64 * length ws)
+    → has ws ≡ S
 row-keeps ws S W E = fun-ext (λ v. go v (decLt (v / 64) (length ws)))
   where
     go : (v : ℕ) → Dec (v / 64 < length ws) → has ws v ≡ S v
@@ -112,7 +113,8 @@ row-keeps ws S W E = fun-ext (λ v. go v (decLt (v / 64) (length ws)))
     go v (no n) = ends-has ws .past v (omega arith) ∙ sym (E .past v (omega arith))
 
 -- one word stored
-pub row-set : (ws : List ℕ) (i x : ℕ) (S : Set) → i < length ws → Word S i x → ((u : ℕ) → (u / 64 ≡ i → ⊥) → has ws u ≡ S u) → has (set ws i x) ≡ S
+pub row-set : (ws : List ℕ) (i x : ℕ) (S : Set) → i < length ws → Word S i x
+    → ((u : ℕ) → (u / 64 ≡ i → ⊥) → has ws u ≡ S u) → has (set ws i x) ≡ S
 unfolding has
 row-set ws i x S h W there = fun-ext (λ u. go u (ℕ-discrete (u / 64) i))
   where

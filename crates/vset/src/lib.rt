@@ -1,22 +1,12 @@
 // Sets of vertices, kept in words of 64 bits. A row of words is a set: vertex v is bit v % 64 of word v / 64.
 // A row is a slice, of any number of words; rows inside one slice are in the crate `rows`.
-// The contracts cite `has` of specs/Words.antt, the set that a row keeps, and the operations on sets of the crate `sets`.
+// The contracts cite `has` of specs/Words.antt, the set that a row keeps, and the set operations of the crate `sets`.
 ghost use mathlib.Core.Path.{_≡_};
 ghost use Prim.Native.Nat.{_*_, _^_, _<_, _≤_};
 ghost use lib.ListN.{length};
 ghost use Rattle.sets.specs.Below.{count};
 ghost use Rattle.sets.specs.Sets.{_∩_, _∪_, _∖_, just};
 ghost use Rattle.vset.specs.Words.{has, Least, Emptiness};
-
-// Whether v is in the set.
-pub fn contains(row: &[u64], v: usize) -> bool
-    requires { ⌜ v < 64 * length (now row) ⌝ }
-    ensures { λ r. ⌜ r ≡ has (now (row .entry)) v ⌝ }
-{
-    let i = v / 64;
-    let k = v % 64;
-    (row[i] >> k) % 2 == 1
-}
 
 // Adds v to the set.
 pub fn insert(row: &mut [u64], v: usize)
@@ -38,7 +28,7 @@ pub fn remove(row: &mut [u64], v: usize)
     row[i] = row[i] & !(1u64 << k);
 }
 
-// How many members the set has: the number of ones in its row.
+// How many members the set has: "count_ones over a row's words gives the degree".
 pub fn size(row: &[u64]) -> usize
     requires { ⌜ 64 * length (now row) < 2 ^ 64 ⌝ }
     ensures { λ r. ⌜ r ≡ count (64 * length (now (row .entry))) (has (now (row .entry))) ⌝ }
@@ -67,7 +57,8 @@ pub fn size_common(a: &[u64], b: &[u64]) -> usize
     n
 }
 
-// The least member from `from` on, or 64 times the number of words where there is none.
+// The least member from `from` on, or 64 times the number of words where there is none:
+// "trailing zeros give the next vertex".
 pub fn next_member(row: &[u64], from: usize) -> usize
     requires { ⌜ 64 * length (now row) < 2 ^ 64 ⌝ }
     requires { ⌜ from ≤ 64 * length (now row) ⌝ }
@@ -93,7 +84,8 @@ pub fn next_member(row: &[u64], from: usize) -> usize
     64 * i
 }
 
-// The least vertex from `from` on that is in both sets, or 64 times the number of words where there is none.
+// The least vertex from `from` on that is in both sets, or 64 times the number of words where there is none:
+// "trailing zeros give the next vertex".
 pub fn next_common(a: &[u64], b: &[u64], from: usize) -> usize
     requires { ⌜ length (now a) ≡ length (now b) ⌝ }
     requires { ⌜ 64 * length (now a) < 2 ^ 64 ⌝ }
@@ -118,20 +110,6 @@ pub fn next_common(a: &[u64], b: &[u64], from: usize) -> usize
         i += 1;
     }
     64 * i
-}
-
-// Whether the set is empty.
-pub fn is_empty(row: &[u64]) -> bool
-    ensures { λ r. ⌜ Emptiness (has (now (row .entry))) r ⌝ }
-{
-    let mut i = 0;
-    while i < row.len() {
-        if row[i] != 0 {
-            return false;
-        }
-        i += 1;
-    }
-    true
 }
 
 // Whether no vertex is in both sets.

@@ -7,28 +7,34 @@ use native.Mathlib.Nat.{min-le-left}
 use native.Mathlib.Omega.{arith}
 use lib.ListN.{length, take, replicate}
 use lib.Seq.{length-take-le}
+use Rattle.rules.specs.Job.{jobOf}
 use Rattle.console.specs.Console.{cellIn, cellsIn, consoleCheck}
 use Rattle.console.proofs.FewerCells.{lent-checked}
 use Rattle.console.proofs.guvtemi_check.Statement.{statement}
 use Rattle.console.proofs.guvtemi_check.Tie as tie
 
 slice-aggregate-check-into : tie.Need-slice-aggregate-check-into
-slice-aggregate-check-into c = sym (length-take-le (c .before .lent .result) (replicate 64 0) (c .before .lent .ensures .1))
+slice-aggregate-check-into c =
+    let n = c .before .lent in
+    sym (length-take-le (n .result) (replicate 64 0) (n .ensures .1))
 
 check-into-requires : tie.Need-check-into-requires
 check-into-requires c κs =
-    let m = c .before .lent .result in
-    let e : length {A = ℕ} (take m (replicate 64 0)) ≡ m = length-take-le m (replicate 64 0) (c .before .lent .ensures .1) in
-    omega (arith, e, c .before .lent .ensures .0, min-le-left (length (now (c .before .before .before .before .args .bytes)) / 4) 64)
+    let n = c .before .lent in
+    let m = n .result in
+    let e : length {A = ℕ} (take m (replicate 64 0)) ≡ m = length-take-le m (replicate 64 0) (n .ensures .1) in
+    omega (arith, n .ensures .0, min-le-left (length (now (c .before .before .before .before .args .bytes)) / 4) 64)
 
 returns : tie.Need-returns
 unfolding consoleCheck cellsIn
 returns c =
     let a = c .before .before .before .before .before .before .args in
-    let m = c .before .before .before .lent .result in
+    let n = c .before .before .before .lent in
+    let m = n .result in
     let e : length {A = ℕ} (take m (replicate 64 0)) ≡ min (length (now (a .bytes)) / 4) 64 =
-    length-take-le m (replicate 64 0) (c .before .before .before .lent .ensures .1) ∙ c .before .before .before .lent .ensures .0 in
-    c .before .check-into .ensures ∙ lent-checked (now (a .sheet)) (cellIn (now (a .bytes))) (length (now (a .bytes)) / 4) (length {A = ℕ} (take m (replicate 64 0))) e
+    length-take-le m (replicate 64 0) (n .ensures .1) ∙ n .ensures .0 in
+    c .before .check-into .ensures
+    ∙ lent-checked (jobOf (now (a .sheet))) (cellIn (now (a .bytes))) (length (now (a .bytes)) / 4) _ e
 
 pub guvtemi-check-spec : {M : Type 1} → statement M
 guvtemi-check-spec =

@@ -5,24 +5,27 @@ use Prim.Native.Nat.{ℕ, _/_, min}
 use mathlib.Core.Path.{_≡_, sym, _∙_}
 use lib.ListN.{length, take, replicate}
 use lib.Seq.{length-take-le}
-use Rattle.planner.specs.Outcome.{outcome, workWords}
+use Rattle.rules.specs.Job.{jobOf}
 use Rattle.console.specs.Console.{consoleOutcome}
-use Rattle.console.proofs.FewerCells.{Alike, lent-alike, alike-number, alike-bytes}
+use Rattle.console.proofs.FewerCells.{lent-alike, alike-handed}
 use Rattle.console.proofs.guvtemi_plan.Statement.{statement}
 use Rattle.console.proofs.guvtemi_plan.Tie as tie
 
 slice-aggregate-plan-into : tie.Need-slice-aggregate-plan-into
-slice-aggregate-plan-into c = sym (length-take-le (c .before .lent .result) (replicate 64 0) (c .before .lent .ensures .1))
+slice-aggregate-plan-into c =
+    let n = c .before .lent in
+    sym (length-take-le (n .result) (replicate 64 0) (n .ensures .1))
 
 returns : tie.Need-returns
 unfolding consoleOutcome
 returns c =
-    let a = c .before .before .before .before .before .before .before .before .before .before .before .before .args in
-    let m = c .before .before .before .before .before .before .before .before .lent .result in
+    let n = c .before .before .before .before .before .before .before .before in
+    let a = n .before .before .before .before .args in
+    let m = n .lent .result in
     let e : length {A = ℕ} (take m (replicate 64 0)) ≡ min (length (now (a .bytes)) / 4) 64 =
-    length-take-le m (replicate 64 0) (c .before .before .before .before .before .before .before .before .lent .ensures .1) ∙ c .before .before .before .before .before .before .before .before .lent .ensures .0 in
-    let same = lent-alike (now (a .sheet)) (a .filter) (a .choice) (a .limit) (now (a .classes)) (length (now (a .bytes)) / 4) (length {A = ℕ} (take m (replicate 64 0))) e in
-    (c .before .before .before .before .plan-into .ensures .0 ∙ alike-number _ _ same, c .before .before .before .before .plan-into .ensures .1 ∙ alike-bytes _ _ same _)
+    length-take-le m (replicate 64 0) (n .lent .ensures .1) ∙ n .lent .ensures .0 in
+    alike-handed (lent-alike (jobOf (now (a .sheet))) _ (length (now (a .bytes)) / 4) _ e)
+    (c .before .before .before .before .plan-into .ensures)
 
 pub guvtemi-plan-spec : {M : Type 1} → statement M
 guvtemi-plan-spec =

@@ -1,14 +1,22 @@
 -- `console::plan_into` meets its contract.
 use borrow.Author.Needs.{needs}
-use mathlib.Core.Path.{_≡_, _∙_}
-use Rattle.console.proofs.Handed.{gives-number, gives-bytes}
+use denote.Ref.{now}
+use lib.ListN.{length}
+use Rattle.rules.specs.Job.{jobOf}
+use Rattle.setting.specs.Setting.{settingOf}
+use Rattle.planner.specs.Outcome.{outcome}
+use Rattle.console.proofs.Handed.{gives-handed}
 use Rattle.console.proofs.plan_into.Statement.{statement}
 use Rattle.console.proofs.plan_into.Tie as tie
 
 returns : tie.Need-returns
 returns c =
-    let g = c .before .before .before .before .before .before .before .before .before .before .plan .ensures .0 in
-    (c .number .ensures ∙ gives-number _ _ _ g, c .before .before .before .put-cells .ensures ∙ gives-bytes _ _ _ g _)
+    let put = c .before .before .before in
+    let p = put .before .before .before .before .before .before .before in
+    let a = p .before .before .before .before .before .before .before .before .args in
+    let x = settingOf (a .options) (now (a .classes)) in
+    gives-handed {o = outcome (jobOf (now (a .sheet))) x (length (now (a .cells))) (length (now (a .work)))}
+    (p .plan .ensures .gives) (c .number .ensures) (put .put-cells .ensures)
 
 pub plan-into-spec : {M : Type 1} → statement M
 plan-into-spec =

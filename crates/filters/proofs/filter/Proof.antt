@@ -1,4 +1,5 @@
--- `filters::filter` meets its contract: bit 2 of the filter number is the sweep's switch. Where the sweep leaves a class empty, so do all filters.
+-- `filters::filter` meets its contract: bit 2 of the filter number is the sweep's switch. Where the sweep leaves a
+-- class empty, so do all filters.
 use borrow.Author.Needs.{needs}
 use borrow.Author.Tests.{eq-eqb, ne-eqb, not-true, not-false}
 use Rattle.filters.proofs.SwitchRows.{unswept, swept-shut, swept-then}
@@ -15,7 +16,8 @@ returns-2 : tie.Need-returns-2
 returns-2 c =
     let x = c .before .before .before in
     let i = x .before .before in
-    swept-shut (i .before .before .args .filters) (eq-eqb _ 1 (i .if1 .left)) (rw (not-true (x .sweep .result) (c .if2 .taken)) at (x .sweep .ensures))
+    swept-shut (i .before .before .args .filters) (eq-eqb _ 1 (i .if1 .left))
+    (rw (not-true (x .sweep .result) (c .if2 .taken)) at (x .sweep .ensures))
 
 returns-3 : tie.Need-returns-3
 returns-3 c =
@@ -25,7 +27,7 @@ returns-3 c =
     let i = x .before .before in
     let s = i .before .before in
     let q = s .pre .0 in
-    swept-then (s .args .filters) (eq-eqb _ 1 (i .if1 .left)) (q .masks-after) (q .graph-after)
+    swept-then (s .args .filters) (eq-eqb _ 1 (i .if1 .left)) q
     (rw (not-false (x .sweep .result) (j .if2 .left)) at (x .sweep .ensures)) (y .unit-filter2 .ensures)
 
 pub filter-spec : {M : Type 1} → statement M

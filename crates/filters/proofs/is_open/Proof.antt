@@ -13,15 +13,17 @@ use Rattle.filters.proofs.is_open.Statement.{statement}
 use Rattle.filters.proofs.is_open.Tie as tie
 
 abbrev Inv-loop : tie.InvT-loop
-Inv-loop part w masks graph n k d c₀ c = (d ≤ c) × (c ≤ k) × ((x : ℕ) → d ≤ x → x < c → (v : ℕ) × ((setAt part w 0 ∩ rowAt part w masks x) v ≡ true))
+Inv-loop part d w masks k c₀ c = (d ≤ c) × (c ≤ k)
+    × ((x : ℕ) → d ≤ x → x < c → (v : ℕ) × ((setAt part w 0 ∩ rowAt part w masks x) v ≡ true))
 
 abbrev μ-loop : tie.MeasureT-loop
-μ-loop part w masks graph n k d c₀ c = k - c
+μ-loop part d w masks k c₀ c = k - c
 
 loop-holds : tie.Need-loop-holds Inv-loop μ-loop
 loop-holds c = (search needs, search needs, λ x a b. absurd (omega arith))
 
-row-there : (q : tie.After-row-at Inv-loop μ-loop) → (let a = q .before .before .before .before .args in q .row-at .result ≡ a .masks + q .before .before .loop .c * a .w)
+row-there : (q : tie.After-row-at Inv-loop μ-loop) → (let a = q .before .before .before .before .args in
+    q .row-at .result ≡ a .place .masks + q .before .before .loop .c * a .place .w)
 row-there q = q .row-at .ensures .here
 
 returns : tie.Need-returns Inv-loop μ-loop
@@ -29,7 +31,8 @@ returns c G N =
     let q = c .before .before in
     let i = q .before in
     let l = i .before in
-    one-empty N (l .loop .c) (l .loop .inv .0) (i .loop-test .taken) (rw (row-there q) at (c .before .is-empty-common .ensures .empty (c .if1 .taken)))
+    one-empty N (l .loop .c) (l .loop .inv .0) (i .loop-test .taken)
+    (rw (row-there q) at (c .before .is-empty-common .ensures .empty (c .if1 .taken)))
 
 loop-again : tie.Need-loop-again Inv-loop μ-loop
 loop-again c =

@@ -12,8 +12,10 @@ returns c =
     unit-on (i .before .before .args .filters) (eq-eqb _ 1 (i .if1 .taken)) (x .failed .ensures)
 
 returns-2 : tie.Need-returns-2
-returns-2 c = let i = c .before .before in unit-off (i .before .before .args .filters) (ne-eqb _ 1 (i .if1 .left)) (c .is-open .ensures)
+returns-2 c = let i = c .before .before in
+    unit-off (i .before .before .args .filters) (ne-eqb _ 1 (i .if1 .left)) (c .is-open .ensures)
 
 pub unit-filter-spec : {M : Type 1} → statement M
 unit-filter-spec =
-    tie.close (tie.spec (λ c κs. search needs) (λ c. search needs) returns (λ c κs. search needs) (λ c. search needs) returns-2)
+    tie.close (tie.spec (λ c κs. search needs) (λ c. search needs) returns (λ c κs. search needs)
+    (λ c. search needs) returns-2)

@@ -10,39 +10,62 @@ use Rattle.graph.proofs.strike_rule.Tie as tie
 side-requires : tie.Need-side-requires
 side-requires c κs =
     let s = c .before .before .before .before .before .before .before in
-    let o = links-within (s .pre .0 .0) (s .args .j) (s .pre .0 .2) in
+    let o = links-within (s .pre .0 .0 .parts) (s .args .j) (s .pre .0 .0 .among) in
     (omega arith, omega arith, o .2)
 
 strike-side-requires : tie.Need-strike-side-requires
 strike-side-requires c κs =
-    let s = c .before .before .before .before .before .before .before .before .before in
-    let x = rw (c .before .before .before .rule-a .ensures .0, c .before .before .rule-b .ensures .0) at (c .before .side .ensures) in
-    rw x (fits-a (s .pre .0 .0) (s .args .j) (s .pre .0 .2), s .pre .0 .1, omega arith, full-a (s .pre .0 .0) (s .args .j) (s .pre .0 .2) (s .pre .1))
+    let y = c .before .before .before in
+    let s = y .before .before .before .before .before .before in
+    let x = rw (y .rule-a .ensures .0, c .before .before .rule-b .ensures .0)
+    at (c .before .side .ensures) in
+    rw x (
+      fits-a (s .pre .0 .0 .parts) (s .args .j) (s .pre .0 .0 .among),
+      s .pre .0 .1,
+      omega arith,
+      full-a (s .pre .0 .0 .parts) (s .args .j) (s .pre .0 .0 .among) (s .pre .1),
+    )
 
 side-requires-2 : tie.Need-side-requires-2
 side-requires-2 c κs =
     let s = c .before .before .before .before .before .before .before .before .before .before .before .before in
-    let o = links-within (s .pre .0 .0) (s .args .j) (s .pre .0 .2) in
+    let o = links-within (s .pre .0 .0 .parts) (s .args .j) (s .pre .0 .0 .among) in
     (omega arith, omega arith, o .2)
 
 strike-side-requires-2 : tie.Need-strike-side-requires-2
 strike-side-requires-2 c κs =
-    let s = c .before .before .before .before .before .before .before .before .before .before .before .before .before .before in
-    let ra = c .before .before .before .before .before .before .before .before .rule-a .ensures .0 in
-    let rb = c .before .before .before .before .before .before .before .rule-b .ensures .0 in
+    let x₁ = c .before .before .before .before in
+    let y₁ = x₁ .before .before in
+    let z₁ = y₁ .before in
+    let x₂ = z₁ .before in
+    let s = x₂ .before .before .before .before .before .before in
+    let ra = x₂ .rule-a .ensures .0 in
+    let rb = z₁ .rule-b .ensures .0 in
     let x = rw (ra, rb) at (c .before .side2 .ensures) in
-    let y = rw (ra, rb) at (c .before .before .before .before .before .before .side .ensures) in
-    let z = c .before .before .before .before .strike-side .ensures in
-    rw x (fits-b (s .pre .0 .0) (s .args .j) (s .pre .0 .2), fit-same (s .pre .0 .1) (z .rest), omega arith, full-b (s .pre .0 .0) (s .args .j) (s .pre .0 .2) (rw y at z) (s .pre .1))
+    let y = rw (ra, rb) at (y₁ .side .ensures) in
+    let z = x₁ .strike-side .ensures in
+    rw x (
+      fits-b (s .pre .0 .0 .parts) (s .args .j) (s .pre .0 .0 .among),
+      fit-same (s .pre .0 .1) (z .rest),
+      omega arith,
+      full-b (s .pre .0 .0 .parts) (s .args .j) (s .pre .0 .0 .among) (rw y at z) (s .pre .1),
+    )
 
 returns : tie.Need-returns
 returns c =
-    let s = c .before .before .before .before .before .before .before .before .before .before .before .before .before .before .before .before .before in
-    let ra = c .before .before .before .before .before .before .before .before .before .before .before .rule-a .ensures .0 in
-    let rb = c .before .before .before .before .before .before .before .before .before .before .rule-b .ensures .0 in
-    let x = rw (ra, rb) at (c .before .before .before .before .before .before .before .before .before .side .ensures) in
-    let y = rw (ra, rb) at (c .before .before .before .before .side2 .ensures) in
-    rule-built (s .pre .0 .0) (s .args .j) (s .pre .0 .2) (rw x at (c .before .before .before .before .before .before .before .strike-side .ensures)) (rw y at (c .before .before .strike-side2 .ensures)) (s .pre .1)
+    let z = c .before .before .before .before in
+    let x₁ = z .before .before .before in
+    let y₁ = x₁ .before .before in
+    let z₁ = y₁ .before in
+    let x₂ = z₁ .before in
+    let s = x₂ .before .before .before .before .before .before in
+    let ra = x₂ .rule-a .ensures .0 in
+    let rb = z₁ .rule-b .ensures .0 in
+    let x = rw (ra, rb) at (y₁ .side .ensures) in
+    let y = rw (ra, rb) at (z .side2 .ensures) in
+    rule-built (s .pre .0 .0 .parts) (s .args .j) (s .pre .0 .0 .among)
+    (rw x at (x₁ .strike-side .ensures))
+    (rw y at (c .before .before .strike-side2 .ensures)) (s .pre .1)
 
 pub strike-rule-spec : {M : Type 1} → statement M
 strike-rule-spec =

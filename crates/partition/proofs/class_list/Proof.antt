@@ -1,5 +1,6 @@
 -- `partition::class_list` meets its contract. The part that is returned has the first n classes.
 use mathlib.Core.Path.{sym}
+use native.Mathlib.Omega.{arith}
 use lib.Seq.{length-take-le}
 use borrow.Author.Tests.{eq-eqb, ne-eqb}
 use Rattle.partition.specs.Choice.{classList}
@@ -7,7 +8,10 @@ use Rattle.partition.proofs.class_list.Statement.{statement}
 use Rattle.partition.proofs.class_list.Tie as tie
 
 slice-aggregate-result : tie.Need-slice-aggregate-result
-slice-aggregate-result c = sym (length-take-le _ _ (c .before .before .pre .0 (c .before .if1 .taken)))
+slice-aggregate-result c =
+    let s = c .before .before in
+    let h = s .pre .0 (c .before .if1 .taken) in
+    sym (length-take-le _ _ (omega arith))
 
 returns : tie.Need-returns
 unfolding classList

@@ -20,7 +20,12 @@ abbrev μ-loop : tie.MeasureT-loop
 μ-loop ls n k cls₀ v₀ cls v = n - v
 
 loop-holds : tie.Need-loop-holds Inv-loop μ-loop
-loop-holds c = (search needs, search needs, tab-none _ (layerOf (c .before .before .args .ls .now) (c .before .before .args .k)))
+loop-holds c = (
+  search needs,
+  search needs,
+  tab-none _ (layerOf (c .before .before .args .ls .now)
+      (c .before .before .args .k)),
+)
 
 cast-cls : tie.Need-cast-cls Inv-loop μ-loop
 cast-cls c =
@@ -32,8 +37,13 @@ loop-again : tie.Need-loop-again Inv-loop μ-loop
 loop-again c =
     let x = c .before .before in
     let s = x .before .before .before in
-    let a = s .args in
-    (omega arith, simp length-set (x .loop .inv .1), tab-more (a .cls .now) (x .loop .cls) (layerOf (a .ls .now) (a .k)) (x .loop .v) (c .layer .result) (omega arith) (x .loop .inv .2) (c .layer .ensures))
+    let a = s .args in (
+      omega arith,
+      simp length-set (x .loop .inv .1),
+      tab-more (a .cls .now) (x .loop .cls)
+          (layerOf (a .ls .now) (a .k)) (x .loop .v) (c .layer .result) (omega arith) (x .loop .inv .2)
+          (c .layer .ensures),
+    )
 
 returns : tie.Need-returns Inv-loop μ-loop
 unfolding layersOf
@@ -41,7 +51,8 @@ returns c =
     let x = c .before in
     let s = x .before .before .before in
     let a = s .args in
-    rw (s .pre .1) at (tab-done (a .cls .now) (x .loop .cls) (layerOf (a .ls .now) (a .k)) (x .loop .v) (omega arith) (x .loop .inv .2))
+    rw (s .pre .1) at (tab-done (a .cls .now) (x .loop .cls) (layerOf (a .ls .now) (a .k)) (x .loop .v) (omega arith)
+    (x .loop .inv .2))
 
 pub put-layers-spec : {M : Type 1} → statement M
 put-layers-spec =

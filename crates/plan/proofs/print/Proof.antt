@@ -6,7 +6,9 @@ use Rattle.plan.proofs.print.Statement.{statement}
 use Rattle.plan.proofs.print.Tie as tie
 
 slice-aggregate-write-all : tie.Need-slice-aggregate-write-all
-slice-aggregate-write-all c = let p = c .before .before .before .put-text in sym (length-take-le (p .result) (p .last .1 .0) (p .ensures .within))
+slice-aggregate-write-all c =
+    let p = c .before .before .before .put-text in
+    sym (length-take-le (p .result) (p .last .1 .0) (p .ensures .within))
 
 pub print-spec : {M : Type 1} → statement M
 print-spec =

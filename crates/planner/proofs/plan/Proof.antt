@@ -3,9 +3,12 @@ use borrow.Author.Needs.{needs}
 use denote.Ref.{now}
 use mathlib.Core.Path.{_≡_, subst, ap, _∙_}
 use lib.ListN.{length}
-use Rattle.planner.specs.Outcome.{outcome, workAfter}
+use Rattle.rules.specs.Job.{jobOf}
+use Rattle.zeros.specs.Zeros.{zeros}
+use Rattle.zeros.proofs.Zeros.{zero-length, zero-again}
+use Rattle.setting.specs.Setting.{settingOf}
+use Rattle.planner.specs.Outcome.{outcome}
 use Rattle.planner.specs.Planned.{Gives}
-use Rattle.planner.proofs.Zeros.{zero-length, zero-again}
 use Rattle.planner.proofs.plan.Statement.{statement}
 use Rattle.planner.proofs.plan.Tie as tie
 
@@ -13,11 +16,18 @@ plan-zeroed-requires : tie.Need-plan-zeroed-requires
 plan-zeroed-requires c κs = zero-again _ _ (c .before .before .before .before .zero-cells .ensures)
 
 returns : tie.Need-returns
-returns c = (
-  subst (λ m. Gives (outcome (now (c .before .before .before .before .before .before .before .before .before .before .before .before .before .before .before .before .before .before .before .args .sheet)) (c .before .before .before .before .before .before .before .before .before .before .before .before .before .before .before .before .before .before .before .args .filter) (c .before .before .before .before .before .before .before .before .before .before .before .before .before .before .before .before .before .before .before .args .choice) (c .before .before .before .before .before .before .before .before .before .before .before .before .before .before .before .before .before .before .before .args .limit) (now (c .before .before .before .before .before .before .before .before .before .before .before .before .before .before .before .before .before .before .before .args .classes)) m (length (now (c .before .before .before .before .before .before .before .before .before .before .before .before .before .before .before .before .before .before .before .args .work)))) (c .before .before .before .before .before .before .before .before .plan-zeroed .result) (c .before .before .before .before .before .before .before .before .plan-zeroed .last .1 .1 .1 .1 .1 .0))
-      (zero-length _ _ (c .before .before .before .before .before .before .before .before .before .before .before .before .before .zero-cells .ensures)) (c .before .before .before .before .before .before .before .before .plan-zeroed .ensures),
-  (c .before .before .zero-words .ensures ∙ ap workAfter (search needs)),
-)
+returns c =
+    let p = c .before .before .before .before .before .before .before .before in
+    let z = p .before .before .before .before .before in
+    let a = z .before .before .before .before .before .before .args in
+    record {
+      gives = subst
+          (λ m. Gives (outcome (jobOf (now (a .sheet))) (settingOf (a .options) (now (a .classes))) m
+          (length (now (a .work))))
+          (p .plan-zeroed .result) (p .plan-zeroed .last .1 .1 .1 .0))
+          (zero-length _ _ (z .zero-cells .ensures)) (p .plan-zeroed .ensures);
+      words = c .before .before .zero-words .ensures ∙ ap zeros (search needs);
+    }
 
 pub plan-spec : {M : Type 1} → statement M
 plan-spec =

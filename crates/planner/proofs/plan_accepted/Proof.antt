@@ -1,45 +1,80 @@
--- `planner::plan_accepted` meets its contract: the class list has a byte for each vertex, and there is a chosen vertex for each link.
+-- `planner::plan_accepted` meets its contract: the class list has a byte for each vertex, and there is a chosen vertex
+-- for each link.
 use borrow.Author.Needs.{needs}
-use mathlib.Core.Path.{_≡_, sym}
+use mathlib.Core.Path.{_≡_, sym, _∙_}
 use native.Mathlib.Omega.{arith}
 use lib.Seq.{length-take-le}
+use Rattle.sheet.proofs.Accepted.{accepted}
 use Rattle.planner.proofs.plan_accepted.Statement.{statement}
 use Rattle.planner.proofs.plan_accepted.Tie as tie
 
-slice-aggregate-plan-parts : tie.Need-slice-aggregate-plan-parts
-slice-aggregate-plan-parts c =
-    let h = c .before .before .before .before .before .pre .0 in
-    sym (length-take-le _ _ (omega (arith, h .freqs, h .accepted .head .n-small)))
+freqs-of-requires : tie.Need-freqs-of-requires
+freqs-of-requires c κs = accepted _ (c .before .before .before .before .pre .sheet) .head .long
 
-slice-aggregate-plan-parts-2 : tie.Need-slice-aggregate-plan-parts-2
-slice-aggregate-plan-parts-2 c =
-    let h = c .before .before .before .before .before .before .pre .0 in
-    sym (length-take-le _ _ (omega (arith, h .links, h .accepted .head .k-small)))
+links-of-requires : tie.Need-links-of-requires
+links-of-requires c κs = accepted _ (c .before .before .before .before .before .pre .sheet) .head .long
 
-plan-parts-requires : tie.Need-plan-parts-requires
-plan-parts-requires c κs =
-    let h = c .before .before .before .before .before .before .before .before .pre .0 in
-    let r = c .before .before .before .before .before .before .before .before .pre .1 in (
-      h,
-      record {
-        small = r .small;
-        classes = length-take-le _ _ (omega (arith, h .freqs, h .accepted .head .n-small));
-        vertices = length-take-le _ _ (omega (arith, h .links, h .accepted .head .k-small));
-        enough = r .enough;
-        zero = r .zero;
-        words = r .words;
-      },
-    )
+array-borrow-prefix-built : tie.Need-array-borrow-prefix-built
+array-borrow-prefix-built c = omega (
+  arith,
+  c .before .freqs-of .ensures .0,
+  accepted _
+      (c .before .before .before .before .before .before .pre .sheet) .head .n-small,
+)
+
+slice-aggregate-plan-in : tie.Need-slice-aggregate-plan-in
+slice-aggregate-plan-in c =
+    sym (length-take-le _ _ (omega (
+      arith,
+      c .before .before .freqs-of .ensures .0,
+      accepted _
+          (c .before .before .before .before .before .before .before .pre .sheet) .head .n-small,
+    )))
+
+array-borrow-prefix-chosen : tie.Need-array-borrow-prefix-chosen
+array-borrow-prefix-chosen c = omega (
+  arith,
+  c .before .links-of .ensures .0,
+  accepted _
+      (c .before .before .before .before .before .before .before .pre .sheet) .head .k-small,
+)
+
+slice-aggregate-plan-in-2 : tie.Need-slice-aggregate-plan-in-2
+slice-aggregate-plan-in-2 c =
+    sym (length-take-le _ _ (omega (
+      arith,
+      c .before .before .links-of .ensures .0,
+      accepted _
+          (c .before .before .before .before .before .before .before .before .pre .sheet) .head .k-small,
+    )))
+
+plan-in-requires : tie.Need-plan-in-requires
+plan-in-requires c κs =
+    let R = c .before .before .before .before .before .before .before .before .before .before .pre in
+    let h = accepted _ (R .sheet) .head in
+    let k = c .before .before .before .before .links-of .ensures .0 in
+    let n = c .before .before .before .before .before .freqs-of .ensures .0 in
+    record {
+      sheet = R .sheet;
+      setting = R .setting;
+      enough = R .enough;
+      words = R .words;
+      zero = R .zero;
+      classes = length-take-le _ _ (omega (arith, h .n-small)) ∙ n;
+      vertices = length-take-le _ _ (omega (arith, h .k-small)) ∙ k;
+    }
 
 pub plan-accepted-spec : {M : Type 1} → statement M
 plan-accepted-spec =
     tie.close
     (tie.spec
-    (λ c. search needs)
-    slice-aggregate-plan-parts
-    (λ c. search needs)
-    slice-aggregate-plan-parts-2
-    plan-parts-requires
+    freqs-of-requires
+    links-of-requires
+    array-borrow-prefix-built
+    slice-aggregate-plan-in
+    array-borrow-prefix-chosen
+    slice-aggregate-plan-in-2
+    plan-in-requires
     (λ c. search needs)
     (λ c. search needs)
     (λ c. search needs))

@@ -1,4 +1,5 @@
--- `rows::cut` meets its contract. The invariant: the first i words of the row keep what the first has and the second has not.
+-- `rows::cut` meets its contract. The invariant: the first i words of the row keep what the first has and the second
+-- has not.
 use borrow.Author.Needs.{needs}
 use Prim.Native.Nat.{_+_, _-_}
 use Rattle.sets.specs.Sets.{_∖_}
@@ -16,7 +17,8 @@ abbrev μ-loop : tie.MeasureT-loop
 loop-again : tie.Need-loop-again Inv-loop μ-loop
 loop-again c =
     let l = c .before .before .before in
-    wordwise-more cutting (l .loop .inv) (l .before .pre) (c .before .before .loop-test .taken) (c .slice-known2 .given (l .before .args .b + l .loop .i) .fits)
+    wordwise-more cutting (l .loop .inv) (l .before .pre) (c .before .before .loop-test .taken)
+    (c .slice-known2 .given (l .before .args .b + l .loop .i) .fits)
 
 returns : tie.Need-returns Inv-loop μ-loop
 returns c = wordwise-all cutting (c .before .loop .inv) (c .before .before .pre) (c .loop-test .left)

@@ -16,7 +16,8 @@ abbrev μ-loop : tie.MeasureT-loop
 loop-again : tie.Need-loop-again Inv-loop μ-loop
 loop-again c =
     let l = c .before .before .before in
-    wordwise-more meeting (l .loop .inv) (l .before .pre) (c .before .before .loop-test .taken) (c .slice-known2 .given (l .before .args .b + l .loop .i) .fits)
+    wordwise-more meeting (l .loop .inv) (l .before .pre) (c .before .before .loop-test .taken)
+    (c .slice-known2 .given (l .before .args .b + l .loop .i) .fits)
 
 returns : tie.Need-returns Inv-loop μ-loop
 returns c = wordwise-all meeting (c .before .loop .inv) (c .before .before .pre) (c .loop-test .left)

@@ -4,7 +4,6 @@ use denote.Ref.{now}
 use mathlib.Core.Path.{_∙_, _≡_, sym}
 use mathlib.Core.Bool.{true}
 use borrow.Author.Tests.{not-false, not-true}
-use native.Mathlib.Omega.{arith}
 use Rattle.sheet.specs.Refusal.{countsOk, formOk, linkCountOk, offsetsOk, refusal}
 use Rattle.sheet.specs.Accepted.{Head}
 use Rattle.sheet.proofs.Accepted.{form-long, head-is}
@@ -17,14 +16,18 @@ form-fine c = sym (c .before .form-ok .ensures) ∙ not-false (c .before .form-o
 links-fine : (c : tie.Else2) → linkCountOk (now (c .before .before .before .before .before .args .s)) ≡ true
 links-fine c = sym (c .before .link-count-ok .ensures) ∙ not-false (c .before .link-count-ok .result) (c .if2 .left)
 
-counts-fine : (c : tie.Else3) → countsOk (now (c .before .before .before .before .before .before .before .args .s)) ≡ true
+counts-fine : (c : tie.Else3) →
+    countsOk (now (c .before .before .before .before .before .before .before .args .s)) ≡ true
 counts-fine c = sym (c .before .counts-ok .ensures) ∙ not-false (c .before .counts-ok .result) (c .if3 .left)
 
-offsets-fine : (c : tie.Else4) → offsetsOk (now (c .before .before .before .before .before .before .before .before .before .args .s)) ≡ true
+offsets-fine : (c : tie.Else4) →
+    offsetsOk (now (c .before .before .before .before .before .before .before .before .before .args .s)) ≡ true
 offsets-fine c = sym (c .before .offsets-ok .ensures) ∙ not-false (c .before .offsets-ok .result) (c .if4 .left)
 
 head : (c : tie.Else4) → Head (now (c .before .before .before .before .before .before .before .before .before .args .s))
-head c = head-is _ (form-fine (c .before .before .before .before .before .before)) (links-fine (c .before .before .before .before)) (counts-fine (c .before .before)) (offsets-fine c)
+head c =
+    head-is _ (form-fine (c .before .before .before .before .before .before))
+    (links-fine (c .before .before .before .before)) (counts-fine (c .before .before)) (offsets-fine c)
 
 returns : tie.Need-returns
 unfolding refusal
@@ -36,7 +39,10 @@ link-count-ok-requires c κs = form-long _ (form-fine c)
 returns-2 : tie.Need-returns-2
 unfolding refusal
 returns-2 c =
-    rw (form-fine (c .before .before), sym (c .before .link-count-ok .ensures) ∙ not-true (c .before .link-count-ok .result) (c .if2 .taken))
+    rw (
+      form-fine (c .before .before),
+      sym (c .before .link-count-ok .ensures) ∙ not-true (c .before .link-count-ok .result) (c .if2 .taken),
+    )
 
 counts-ok-requires : tie.Need-counts-ok-requires
 counts-ok-requires c κs = form-long _ (form-fine (c .before .before))
@@ -63,36 +69,17 @@ returns-4 c =
       sym (c .before .offsets-ok .ensures) ∙ not-true (c .before .offsets-ok .result) (c .if4 .taken),
     )
 
-word-requires : tie.Need-word-requires
-word-requires c κs = omega (arith, head c)
-
-word-requires-2 : tie.Need-word-requires-2
-word-requires-2 c κs = omega (arith, head (c .before))
-
-word-requires-3 : tie.Need-word-requires-3
-word-requires-3 c κs = omega (arith, head (c .before .before))
-
-word-requires-4 : tie.Need-word-requires-4
-word-requires-4 c κs = omega (arith, head (c .before .before .before))
-
 sections-requires : tie.Need-sections-requires
-sections-requires c κs =
-    let h = head (c .before .before .before .before) in
-    rw (c .before .before .before .word .ensures .0, c .before .before .word2 .ensures .0, c .before .word3 .ensures .0, c .word4 .ensures .0)
-    (h .k-small, h .n-small, h .q-small, h .t-small, h .whole)
+sections-requires c κs = head c
 
 returns-5 : tie.Need-returns-5
 unfolding refusal
 returns-5 c =
     rw (
-      form-fine (c .before .before .before .before .before .before .before .before .before .before .before),
-      links-fine (c .before .before .before .before .before .before .before .before .before),
-      counts-fine (c .before .before .before .before .before .before .before),
-      offsets-fine (c .before .before .before .before .before),
-      ← c .before .before .before .before .word .ensures .0,
-      ← c .before .before .before .word2 .ensures .0,
-      ← c .before .before .word3 .ensures .0,
-      ← c .before .word4 .ensures .0,
+      form-fine (c .before .before .before .before .before .before .before),
+      links-fine (c .before .before .before .before .before),
+      counts-fine (c .before .before .before),
+      offsets-fine (c .before),
     )
     (c .sections .ensures)
 
@@ -108,9 +95,5 @@ check-sheet-spec =
     returns-3
     offsets-ok-requires
     returns-4
-    word-requires
-    word-requires-2
-    word-requires-3
-    word-requires-4
     sections-requires
     returns-5)

@@ -3,61 +3,81 @@ use borrow.Author.Needs.{needs}
 use denote.Ref.{now}
 use mathlib.Core.Path.{_≡_, sym, ap, _∙_}
 use native.Mathlib.Omega.{arith}
-use Rattle.planner.specs.Text.{ascii, line}
-use Rattle.text.proofs.Pieces.{put-holds}
-use Rattle.text.proofs.Answers.{first-few, found-holds, printed-none, printed-stopped, printed-refused, same-holds}
+use Rattle.sheet.specs.Sheet.{kOf}
+use Rattle.sheet.proofs.Accepted.{accepted}
+use Rattle.text.specs.Lines.{ascii, line}
+use Rattle.text.proofs.Pieces.{put-holds, same-holds}
+use Rattle.text.proofs.Links.{lines-done}
+use Rattle.text.proofs.Answers.{first-few, found-holds, printed-none, printed-stopped, printed-refused}
 use Rattle.text.proofs.put_answer.Statement.{statement}
 use Rattle.text.proofs.put_answer.Tie as tie
+
+links-of-requires : tie.Need-links-of-requires
+links-of-requires c κs =
+    let v = c .before in
+    let s = v .before .before .before .before in
+    accepted _ (s .pre .1 (sym (v .verdict-number .ensures) ∙ c .if1 .taken) .0) .head .long
 
 put-link-lines-requires : tie.Need-put-link-lines-requires
 unfolding ascii
 put-link-lines-requires c κs =
     let p = c .before .before .before in
-    let i = p .before .before .before in
-    let s = p .before .before .before .before .before .before .before in
-    let b = s .pre .1 (sym (i .before .verdict-number .ensures) ∙ i .if1 .taken) in
-    (omega (arith, p .put-line .ensures .end, p .put-line .ensures .room, first-few (s .args .p .nodes) (omega arith), b .1), b .0, b .1)
+    let l = p .before .before .before in
+    let v = l .before .before in
+    let s = v .before .before .before .before in
+    let f = s .pre .1 (sym (v .verdict-number .ensures) ∙ l .before .if1 .taken) in
+    let k = l .links-of .ensures in
+    let few = accepted _ (f .0) .head .k-small in
+    let one = first-few (s .args .p .nodes) (omega arith) in
+    (omega (arith, p .put-line .ensures .end, p .put-line .ensures .room), omega (arith, f .1), omega arith)
 
 returns : tie.Need-returns
 unfolding ascii
 returns c =
     let q = c .before .before in
     let p = q .before .before .before .before in
-    let i = p .before .before .before in
-    let s = p .before .before .before .before .before .before .before in
-    let e = sym (i .before .verdict-number .ensures) ∙ i .if1 .taken in
-    found-holds (s .args .k) _ e (s .pre .1 e .1) (omega arith) (s .pre .0) (p .put-line .ensures) (q .put-link-lines .ensures)
+    let l = p .before .before .before in
+    let v = l .before .before in
+    let s = v .before .before .before .before in
+    let e = sym (v .verdict-number .ensures) ∙ l .before .if1 .taken in
+    let few = accepted _ (s .pre .1 e .0) .head .k-small in
+    let k : l .links-of .result ≡ kOf (now (s .args .sheet)) = l .links-of .ensures .0 in
+    found-holds _ _ e few (omega arith) (s .pre .0) (p .put-line .ensures) (lines-done k (q .put-link-lines .ensures))
 
 returns-2 : tie.Need-returns-2
 unfolding ascii
 returns-2 c =
     let p = c .before .before in
     let i = p .before .before .before in
-    same-holds (printed-none (p .before .before .before .before .before .before .before .before .args .k) _ (sym (i .before .before .verdict-number .ensures) ∙ i .if2 .taken)) (put-holds (p .put-line2 .ensures))
+    let e = i .before .before .verdict-number .ensures in
+    same-holds (printed-none _ _ (sym e ∙ i .if2 .taken)) (put-holds (p .put-line2 .ensures))
 
 returns-3 : tie.Need-returns-3
 unfolding ascii
 returns-3 c =
     let p = c .before .before in
     let i = p .before .before .before in
-    same-holds (printed-stopped (p .before .before .before .before .before .before .before .before .before .args .k) _ (sym (i .before .before .before .verdict-number .ensures) ∙ i .if3 .taken)) (put-holds (p .put-line3 .ensures))
+    let e = i .before .before .before .verdict-number .ensures in
+    same-holds (printed-stopped _ _ (sym e ∙ i .if3 .taken)) (put-holds (p .put-line3 .ensures))
 
 returns-4 : tie.Need-returns-4
 unfolding ascii
 returns-4 c =
     let p = c .before .before in
     let i = p .before .before .before in
-    let e = i .before .before .before .verdict-number .ensures in
-    same-holds
-    (printed-refused (p .before .before .before .before .before .before .before .before .before .args .k) _ (λ h. i .before .before .if1 .left (e ∙ h)) (λ h. i .before .if2 .left (e ∙ h)) (λ h. i .if3 .left (e ∙ h))
-    ∙ ap (λ n. line (ascii "refused") n) (sym e))
-    (put-holds (p .put-line4 .ensures))
+    let j = i .before in
+    let e = j .before .before .verdict-number .ensures in
+    let a = j .before .if1 .left in
+    let b = j .if2 .left in
+    let r = printed-refused _ _ (λ h. a (e ∙ h)) (λ h. b (e ∙ h)) (λ h. i .if3 .left (e ∙ h)) in
+    same-holds (r ∙ ap (λ n. line (ascii "refused") n) (sym e)) (put-holds (p .put-line4 .ensures))
 
 pub put-answer-spec : {M : Type 1} → statement M
 put-answer-spec =
     tie.close
     (tie.spec
     (λ c κs. search needs)
+    links-of-requires
     (λ c. search needs)
     (λ c κs. search needs)
     put-link-lines-requires

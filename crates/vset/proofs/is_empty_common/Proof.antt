@@ -27,14 +27,18 @@ returns c =
     record {
       empty = λ e. absurd (false≢true e);
       some = λ e. word-some (word-meet (word-has a i) (word-has b i))
-          (and-lt 64 (getD a i 0) (getD b i 0) (c .before .before .shared-slice-known .given i .fits) (c .before .shared-slice-known2 .given i .fits)) (c .if1 .taken);
+          (and-lt 64 (getD a i 0) (getD b i 0) (c .before .before .shared-slice-known .given i .fits)
+          (c .before .shared-slice-known2 .given i .fits)) (c .if1 .taken);
     }
 
 loop-again : tie.Need-loop-again Inv-loop μ-loop
 loop-again c =
     let l = c .before .before .before .before in
-    let s = l .before .args in
-    (search needs, none-join _ _ _ _ (l .loop .inv .1) (none-word (word-meet (word-has (s .a .now) (l .loop .i)) (word-has (s .b .now) (l .loop .i))) (c .if1 .left)))
+    let s = l .before .args in (
+      search needs,
+      none-join _ _ _ _ (l .loop .inv .1) (none-word
+          (word-meet (word-has (s .a .now) (l .loop .i)) (word-has (s .b .now) (l .loop .i))) (c .if1 .left)),
+    )
 
 returns-2 : tie.Need-returns-2 Inv-loop μ-loop
 returns-2 c = record {

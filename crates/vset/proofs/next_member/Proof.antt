@@ -18,7 +18,12 @@ abbrev μ-loop : tie.MeasureT-loop
 μ-loop row from i₀ k first i = length row - i
 
 returns : tie.Need-returns Inv-loop μ-loop
-returns c = record { after = omega arith; within = omega arith; none = λ v l m. absurd (omega arith); found = λ m. absurd (omega arith) }
+returns c = record {
+  after = omega arith;
+  within = omega arith;
+  none = λ v l m. absurd (omega arith);
+  found = λ m. absurd (omega arith);
+}
 
 returns-2 : tie.Need-returns-2 Inv-loop μ-loop
 returns-2 c =
@@ -26,7 +31,8 @@ returns-2 c =
     let row = p .args .row .now in
     let from = p .args .from in
     let e : 64 * (from / 64) + from % 64 ≡ from = omega arith in
-    rw e at (least-in (word-has row (from / 64)) (from % 64) (length row) (c .before .before .if1 .left) (c .before .shared-slice-known .given (from / 64) .fits) (c .if2 .taken))
+    rw e at (least-in (word-has row (from / 64)) (from % 64) (length row) (c .before .before .if1 .left)
+    (c .before .shared-slice-known .given (from / 64) .fits) (c .if2 .taken))
 
 cast-result : tie.Need-cast-result Inv-loop μ-loop
 cast-result c =
@@ -35,15 +41,20 @@ cast-result c =
 
 loop-holds : tie.Need-loop-holds Inv-loop μ-loop
 loop-holds c =
-    let a = c .before .before .before .args in
-    (omega arith, omega arith, λ v l h. none-in (word-has (a .row .now) (a .from / 64)) (a .from % 64) (c .if2 .left) v (omega arith) h)
+    let a = c .before .before .before .args in (
+      omega arith,
+      omega arith,
+      λ v l h. none-in (word-has (a .row .now) (a .from / 64)) (a .from % 64) (c .if2 .left) v
+          (omega arith) h,
+    )
 
 returns-3 : tie.Need-returns-3 Inv-loop μ-loop
 returns-3 c =
     let l = c .before .before .before in
     let row = l .before .before .before .before .args .row .now in
     least-from _ (l .loop .inv .1) (l .loop .inv .2)
-    (least-word (word-has row (l .loop .i)) (length row) (c .before .before .loop-test .taken) (c .before .shared-slice-known2 .given (l .loop .i) .fits) (c .if3 .taken))
+    (least-word (word-has row (l .loop .i)) (length row) (c .before .before .loop-test .taken)
+    (c .before .shared-slice-known2 .given (l .loop .i) .fits) (c .if3 .taken))
 
 cast-result-2 : tie.Need-cast-result-2 Inv-loop μ-loop
 cast-result-2 c =
@@ -53,11 +64,20 @@ cast-result-2 c =
 loop-again : tie.Need-loop-again Inv-loop μ-loop
 loop-again c =
     let l = c .before .before .before in
-    let row = l .before .before .before .before .args .row .now in
-    (omega arith, omega arith, none-join (has row) _ _ _ (l .loop .inv .2) (none-word (word-has row (l .loop .i)) (c .if3 .left)))
+    let row = l .before .before .before .before .args .row .now in (
+      omega arith,
+      omega arith,
+      none-join (has row) _ _ _ (l .loop .inv .2)
+          (none-word (word-has row (l .loop .i)) (c .if3 .left)),
+    )
 
 returns-4 : tie.Need-returns-4 Inv-loop μ-loop
-returns-4 c = record { after = c .before .loop .inv .1; within = omega arith; none = c .before .loop .inv .2; found = λ m. absurd (omega arith) }
+returns-4 c = record {
+  after = c .before .loop .inv .1;
+  within = omega arith;
+  none = c .before .loop .inv .2;
+  found = λ m. absurd (omega arith);
+}
 
 pub next-member-spec : {M : Type 1} → statement M
 next-member-spec =

@@ -14,7 +14,8 @@ unfolding _∖_
 returns c =
     let v = c .before .args .v in
     let ws = c .before .args .row .now in
-    row-set ws (v / 64) _ (has ws ∖ just v) (omega arith) (word-cut (word-has ws (v / 64)) (word-just v) (one-lt (v % 64) (omega arith)))
+    row-set ws (v / 64) _ (has ws ∖ just v) (omega arith)
+    (word-cut (word-has ws (v / 64)) (word-just v) (one-lt (v % 64) (omega arith)))
     (λ u n. rw (just-other v u n, and-true))
 
 pub remove-spec : {M : Type 1} → statement M

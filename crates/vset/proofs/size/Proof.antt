@@ -20,7 +20,8 @@ abbrev μ-loop : tie.MeasureT-loop
 one-more : (c : tie.After-shared-slice-known Inv-loop μ-loop)
     → Counted (has (c .before .before .before .args .row .now)) (c .before .before .loop .i)
     (getD (c .before .before .before .args .row .now) (c .before .before .loop .i) 0) (c .before .before .loop .n)
-one-more c = counted _ (word-has _ _) (c .shared-slice-known .given (c .before .before .loop .i) .fits) (c .before .before .loop .inv .1)
+one-more c = counted _ (word-has _ _) (c .shared-slice-known .given (c .before .before .loop .i) .fits)
+    (c .before .before .loop .inv .1)
 
 returns : tie.Need-returns Inv-loop μ-loop
 returns c =

@@ -27,7 +27,8 @@ one-more : (c : tie.After-shared-slice-known2 Inv-loop μ-loop)
 one-more c =
     let l = c .before .before .before in
     counted _ (word-meet (word-has _ _) (word-has _ _))
-    (and-lt 64 _ _ (c .before .shared-slice-known .given (l .loop .i) .fits) (c .shared-slice-known2 .given (l .loop .i) .fits))
+    (and-lt 64 _ _ (c .before .shared-slice-known .given (l .loop .i) .fits)
+    (c .shared-slice-known2 .given (l .loop .i) .fits))
     (l .loop .inv .1)
 
 returns : tie.Need-returns Inv-loop μ-loop

@@ -26,14 +26,18 @@ loop-less c = simp length-set (omega arith)
 
 loop-again : tie.Need-loop-again Inv-loop μ-loop
 unfolding cellIn
-loop-again c = (
-  simp length-set (omega arith),
-  simp length-set (omega arith),
-  tab-more _ _ (cellIn (now (c .before .before .before .before .before .args .from))) _ _ (omega arith) (c .before .before .loop .inv .2) (c .word .ensures .0),
-)
+loop-again c =
+    let l = c .before .before in
+    let bytes = now (l .before .before .before .args .from) in (
+      simp length-set (omega arith),
+      simp length-set (omega arith),
+      tab-more _ _ (cellIn bytes) _ _ (omega arith) (l .loop .inv .2) (c .word .ensures .0),
+    )
 
 returns : tie.Need-returns Inv-loop μ-loop
-returns c = tab-done _ _ (cellIn (now (c .before .before .before .before .args .from))) (c .before .loop .i) (omega arith) (c .before .loop .inv .2)
+returns c =
+    let l = c .before in
+    tab-done _ _ (cellIn (now (l .before .before .before .args .from))) (l .loop .i) (omega arith) (l .loop .inv .2)
 
 pub get-cells-spec : {M : Type 1} → statement M
 get-cells-spec =

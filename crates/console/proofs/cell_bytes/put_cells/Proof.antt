@@ -25,15 +25,19 @@ loop-less : tie.Need-loop-less Inv-loop μ-loop
 loop-less c = simp length-set (omega arith)
 
 loop-again : tie.Need-loop-again Inv-loop μ-loop
-loop-again c = (
-  simp length-set (omega arith),
-  simp length-set (omega arith),
-  tab-more _ _ (cellByte (now (c .before .before .before .before .before .args .from))) _ _ (omega arith) (c .before .before .loop .inv .2) (c .cell-byte .ensures),
-)
+loop-again c =
+    let l = c .before .before in
+    let cells = now (l .before .before .before .args .from) in (
+      simp length-set (omega arith),
+      simp length-set (omega arith),
+      tab-more _ _ (cellByte cells) _ _ (omega arith) (l .loop .inv .2) (c .cell-byte .ensures),
+    )
 
 returns : tie.Need-returns Inv-loop μ-loop
 unfolding cellBytes
-returns c = tab-done _ _ (cellByte (now (c .before .before .before .before .args .from))) (c .before .loop .i) (omega arith) (c .before .loop .inv .2)
+returns c =
+    let l = c .before in
+    tab-done _ _ (cellByte (now (l .before .before .before .args .from))) (l .loop .i) (omega arith) (l .loop .inv .2)
 
 pub put-cells-spec : {M : Type 1} → statement M
 put-cells-spec =

@@ -6,10 +6,10 @@ use Rattle.filters.proofs.pre_filter_rows.pre_filter.Statement.{stateme
 use Rattle.filters.proofs.pre_filter_rows.pre_filter.Tie as tie
 
 abbrev Inv-loop : tie.InvT-loop
-Inv-loop part₀ w layers graph n k u e₀ part e = Layering w layers graph n k part₀ part e
+Inv-loop part₀ place w masks graph n k u e₀ part e = Layering place part₀ part e
 
 abbrev μ-loop : tie.MeasureT-loop
-μ-loop part₀ w layers graph n k u e₀ part e = k - e
+μ-loop part₀ place w masks graph n k u e₀ part e = place .k - e
 
 loop-holds : tie.Need-loop-holds Inv-loop μ-loop
 loop-holds c = layering-none
@@ -22,14 +22,15 @@ loop-again c =
     let i = r .before in
     let l = i .before in
     let s = l .before .before in
-    layering-more (s .pre .masks-after) (s .pre .graph-after) (l .loop .inv) (i .loop-test .taken) (r .row-at .ensures .here) (x .copy .ensures) (y .strike-unreached .ensures)
+    layering-more (s .pre) (l .loop .inv) (i .loop-test .taken) (r .row-at .ensures .here) (x .copy .ensures)
+    (y .strike-unreached .ensures)
 
 returns : tie.Need-returns Inv-loop μ-loop
 returns c =
     let i = c .before .before in
     let l = i .before in
     let s = l .before .before in
-    layering-all (s .pre .masks-after) (s .pre .graph-after) (l .loop .inv) (i .loop-test .left) (c .is-open .ensures)
+    layering-all (s .pre) (l .loop .inv) (i .loop-test .left) (c .is-open .ensures)
 
 pub pre-filter-spec : {M : Type 1} → statement M
 pre-filter-spec =

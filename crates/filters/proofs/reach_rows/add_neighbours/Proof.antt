@@ -12,7 +12,8 @@ abbrev μ-loop : tie.MeasureT-loop
 μ-loop part₀ w a u graph n v₀ part v = 64 * w - v
 
 loop-holds : tie.Need-loop-holds Inv-loop μ-loop
-loop-holds c = let s = c .before .before .before in uniting-start (s .pre .0) (s .pre .1) (s .pre .3) (c .next-member .ensures)
+loop-holds c = let s = c .before .before .before in
+    uniting-start (s .pre .0) (s .pre .1) (s .pre .3) (c .next-member .ensures)
 
 loop-again : tie.Need-loop-again Inv-loop μ-loop
 loop-again c =
@@ -21,7 +22,8 @@ loop-again c =
     let i = r .before in
     let l = i .before in
     let s = l .before .before .before .before in
-    uniting-more (s .pre .0) (s .pre .1) (s .pre .3) (l .loop .inv) (i .loop-test .taken) (r .row-at .ensures .here) (j .join .ensures) (c .next-member2 .ensures)
+    uniting-more (s .pre .0) (s .pre .1) (s .pre .3) (l .loop .inv) (i .loop-test .taken) (r .row-at .ensures .here)
+    (j .join .ensures) (c .next-member2 .ensures)
 
 returns : tie.Need-returns Inv-loop μ-loop
 returns c =

@@ -8,10 +8,10 @@ use Rattle.filters.proofs.sweep_rows.sweep.Statement.{statement}
 use Rattle.filters.proofs.sweep_rows.sweep.Tie as tie
 
 abbrev Inv-loop : tie.InvT-loop
-Inv-loop part₀ w masks graph n k d a e₀ part e = Sweeping d w masks graph n k part₀ part e
+Inv-loop part₀ place d w masks graph n k a e₀ part e = Sweeping d place part₀ part e
 
 abbrev μ-loop : tie.MeasureT-loop
-μ-loop part₀ w masks graph n k d a e₀ part e = k - e
+μ-loop part₀ place d w masks graph n k a e₀ part e = place .k - e
 
 loop-holds : tie.Need-loop-holds Inv-loop μ-loop
 loop-holds c = let x = c .before .before in sweeping-none (x .before .before .before .pre .1) (x .clear .ensures .here)
@@ -23,17 +23,15 @@ loop-again c =
     let i = r .before in
     let l = i .before in
     let s = l .before .before .before .before .before .before in
-    sweeping-more (s .pre .0 .masks-after) (s .pre .0 .graph-after) (l .loop .inv) (i .loop-test .taken) (r .row-at .ensures .here) (x .sweep-by .ensures)
+    sweeping-more (s .pre .0) (l .loop .inv) (i .loop-test .taken) (r .row-at .ensures .here) (x .sweep-by .ensures)
 
 returns : tie.Need-returns Inv-loop μ-loop
 returns c =
     let i = c .before .before in
     let l = i .before in
     let s = l .before .before .before .before .before .before in
-    let a = s .pre .0 .masks-after in
-    let b = s .pre .0 .graph-after in
-    filtered-before a b (omega arith) (omega arith) (l .before .before .before .clear .ensures .rest)
-    (sweeping-all a b (l .loop .inv) (i .loop-test .left) (c .is-open .ensures))
+    filtered-before (s .pre .0) (omega arith) (omega arith) (l .before .before .before .clear .ensures .rest)
+    (sweeping-all (s .pre .0) (l .loop .inv) (i .loop-test .left) (c .is-open .ensures))
 
 pub sweep-spec : {M : Type 1} → statement M
 sweep-spec =

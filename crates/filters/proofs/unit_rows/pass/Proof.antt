@@ -1,51 +1,45 @@
 -- `filters::unit_rows::pass` meets its contract. The invariant: the classes below c were visited, one after another.
 use borrow.Author.Needs.{needs}
-use native.Mathlib.Omega.{arith}
-use Prim.Native.Nat.{_+_, _-_, _≤_}
-use Rattle.filters.specs.Step.{Stepped}
+use Prim.Native.Nat.{_-_}
+use Rattle.cliques.specs.Words.{twoRows}
+use Rattle.filters.specs.Step.{Calm}
 use Rattle.filters.specs.Unit.{unit}
-use Rattle.filters.specs.declared.Step.the-variants.{Open}
-use Rattle.filters.proofs.Steps.{step-none, step-says, steps-shut, steps-then}
+use Rattle.filters.proofs.Steps.{Turns, turns-none, turns-shut, turns-more, turns-all}
 use Rattle.filters.proofs.Unit.{UnitClosed, unit-greatest}
-use Rattle.filters.proofs.UnitRows.{CalmTo, calm-more, calm-all}
+use Rattle.filters.proofs.UnitRows.{calm-rests}
 use Rattle.filters.proofs.unit_rows.pass.Statement.{statement}
 use Rattle.filters.proofs.unit_rows.pass.Tie as tie
 
 abbrev Inv-loop : tie.InvT-loop
-Inv-loop part₀ w masks graph n k d struck₀ c₀ part struck c = (d ≤ c) × (c ≤ k) × Stepped unit (CalmTo d c) (w + w) d w masks graph n k part₀ part (Open struck)
+Inv-loop part₀ place d k struck₀ c₀ part struck c =
+    Turns unit (λ x G. Calm G d x) (twoRows place) d place part₀ part struck c
 
 abbrev μ-loop : tie.MeasureT-loop
-μ-loop part₀ w masks graph n k d struck₀ c₀ part struck c = k - c
+μ-loop part₀ place d k struck₀ c₀ part struck c = place .k - c
 
 loop-holds : tie.Need-loop-holds Inv-loop μ-loop
-loop-holds c =
-    let q = c .before .pre .0 in
-    (search needs, search needs, step-none unit UnitClosed unit-greatest (q .masks-after) (q .graph-after) (λ G N x a b. absurd (omega arith)))
+loop-holds c = let s = c .before in turns-none unit UnitClosed unit-greatest _ (s .pre .0) (s .pre .1)
 
 returns : tie.Need-returns Inv-loop μ-loop
 returns c =
     let v = c .before .before .before .before in
     let l = v .before .before .before in
-    let q = l .before .before .pre .0 in
-    steps-shut unit UnitClosed unit-greatest (q .masks-after) (q .graph-after) (l .loop .struck) (l .loop .inv .2)
-    (rw (c .enum-told .given .1) at (v .visit .ensures _ (l .loop .inv .0)))
+    turns-shut unit UnitClosed unit-greatest _ (l .before .before .pre .0) (l .loop .inv)
+    (rw (c .enum-told .given .1) at (v .visit .ensures _ (l .loop .inv .from)))
 
 loop-again : tie.Need-loop-again Inv-loop μ-loop
 loop-again c =
     let v = c .before .before .before .before .before in
-    let l = v .before .before .before in
-    let q = l .before .before .pre .0 in (
-      omega arith,
-      omega arith,
-      steps-then unit UnitClosed unit-greatest (q .masks-after) (q .graph-after) (l .loop .struck) (l .loop .inv .2) _ (calm-more _ _)
-          (rw (c .before .here .given .1) at (v .visit .ensures _ (l .loop .inv .0))),
-    )
+    let t = v .before .before in
+    let l = t .before in
+    turns-more unit UnitClosed unit-greatest _ (l .before .before .pre .0) (l .loop .inv) _ (t .loop-test .taken)
+    (rw (c .before .here .given .1) at (v .visit .ensures _ (l .loop .inv .from)))
 
 returns-2 : tie.Need-returns-2 Inv-loop μ-loop
 returns-2 c =
     let l = c .before in
-    let q = l .before .before .pre .0 in
-    step-says unit UnitClosed unit-greatest (q .masks-after) (q .graph-after) (λ G N. calm-all _ _ G _ (omega (arith, N .held .classes, c .loop-test .left))) (l .loop .inv .2)
+    turns-all unit UnitClosed unit-greatest _ (l .before .before .pre .0) (l .loop .inv) (c .loop-test .left)
+    (calm-rests _)
 
 pub pass-spec : {M : Type 1} → statement M
 pass-spec =

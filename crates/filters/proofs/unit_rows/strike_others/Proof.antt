@@ -11,7 +11,8 @@ returns c =
     let x = y .before .before .before .before in
     let r = x .before .before in
     let s = r .before .before in
-    others-none (s .args .v) (s .pre .0) (s .pre .2) (r .row-at .ensures .here) (x .join .ensures) (y .cut .ensures) (z .is-empty-common .ensures) (c .if1 .taken)
+    others-none (s .args .v) (s .pre .0) (s .pre .2) (r .row-at .ensures .here) (x .join .ensures) (y .cut .ensures)
+    (z .is-empty-common .ensures) (c .if1 .taken)
 
 returns-2 : tie.Need-returns-2
 returns-2 c =
@@ -22,7 +23,8 @@ returns-2 c =
     let x = y .before .before .before .before in
     let r = x .before .before in
     let s = r .before .before in
-    others-some (s .args .v) (s .pre .0) (s .pre .2) (r .row-at .ensures .here) (x .join .ensures) (y .cut .ensures) (z .is-empty-common .ensures)
+    others-some (s .args .v) (s .pre .0) (s .pre .2) (r .row-at .ensures .here) (x .join .ensures) (y .cut .ensures)
+    (z .is-empty-common .ensures)
     (i .if1 .left) (q .cut2 .ensures)
 
 pub strike-others-spec : {M : Type 1} → statement M

@@ -11,7 +11,7 @@ returns c d h =
     let z = c .before in
     let r = z .before .before in
     let s = r .before .before in
-    let C = counted (s .args .w) (s .args .part .now) (s .pre .0) (s .pre .1) (r .row-at .ensures) (z .size-common .ensures) in
+    let C = counted (s .args .part .now) (s .pre .0) (s .pre .1) (r .row-at .ensures) (z .size-common .ensures) in
     visit-shut C d h (c .if1 .taken)
 
 returns-2 : tie.Need-returns-2
@@ -19,7 +19,7 @@ returns-2 c d h =
     let z = c .before .before in
     let r = z .before .before in
     let s = r .before .before in
-    let C = counted (s .args .w) (s .args .part .now) (s .pre .0) (s .pre .1) (r .row-at .ensures) (z .size-common .ensures) in
+    let C = counted (s .args .part .now) (s .pre .0) (s .pre .1) (r .row-at .ensures) (z .size-common .ensures) in
     visit-more C d h (c .if2 .taken)
 
 returns-3 : tie.Need-returns-3
@@ -28,7 +28,7 @@ returns-3 c d h =
     let z = y .before .before .before .before in
     let r = z .before .before in
     let s = r .before .before in
-    let C = counted (s .args .w) (s .args .part .now) (s .pre .0) (s .pre .1) (r .row-at .ensures) (z .size-common .ensures) in
+    let C = counted (s .args .part .now) (s .pre .0) (s .pre .1) (r .row-at .ensures) (z .size-common .ensures) in
     visit-none C d h
     (omega arith) (y .next-common .ensures) (c .if3 .taken)
 
@@ -40,7 +40,7 @@ returns-4 c d h =
     let z = y .before .before .before .before in
     let r = z .before .before in
     let s = r .before .before in
-    let C = counted (s .args .w) (s .args .part .now) (s .pre .0) (s .pre .1) (r .row-at .ensures) (z .size-common .ensures) in
+    let C = counted (s .args .part .now) (s .pre .0) (s .pre .1) (r .row-at .ensures) (z .size-common .ensures) in
     visit-struck C d h
     (omega arith) (y .next-common .ensures) (i .if3 .left) (x .strike-others .ensures)
 

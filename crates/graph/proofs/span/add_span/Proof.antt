@@ -11,7 +11,8 @@ use Rattle.graph.proofs.span.add_span.Statement.{statement}
 use Rattle.graph.proofs.span.add_span.Tie as tie
 
 abbrev Inv-loop : tie.InvT-loop
-Inv-loop part₀ w to first end v₀ part v = (first ≤ v) × (v ≤ end) × Put (setAt part₀ w to ∪ stretch first v) w to part₀ part
+Inv-loop part₀ w to first end v₀ part v = (first ≤ v) × (v ≤ end)
+    × Put (setAt part₀ w to ∪ stretch first v) w to part₀ part
 
 abbrev μ-loop : tie.MeasureT-loop
 μ-loop part₀ w to first end v₀ part v = end - v
@@ -31,7 +32,8 @@ same-length : tie.Need-same-length Inv-loop μ-loop
 same-length c = c .before .loop .inv .2 .rest .len
 
 returns : tie.Need-returns Inv-loop μ-loop
-returns c = let e : c .before .loop .v ≡ c .before .before .before .args .end = omega arith in rw e at (c .before .loop .inv .2)
+returns c = let e : c .before .loop .v ≡ c .before .before .before .args .end = omega arith in
+    rw e at (c .before .loop .inv .2)
 
 pub add-span-spec : {M : Type 1} → statement M
 add-span-spec =

@@ -12,7 +12,8 @@ returns-2 : tie.Need-returns-2
 returns-2 c =
     let o = c .before .before .before in
     let i = o .before .before in
-    partner-put _ _ _ _ _ (sym (i .before .own-place .ensures) ∙ i .if1 .left) (rw (o .other-place .ensures) at (c .before .before .insert .ensures))
+    partner-put _ _ _ _ _ (sym (i .before .own-place .ensures) ∙ i .if1 .left)
+    (rw (o .other-place .ensures) at (c .before .before .insert .ensures))
 
 pub add-partner-spec : {M : Type 1} → statement M
 add-partner-spec =

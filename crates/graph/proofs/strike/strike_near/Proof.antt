@@ -11,11 +11,11 @@ use Rattle.graph.proofs.strike.strike_near.Statement.{statement}
 use Rattle.graph.proofs.strike.strike_near.Tie as tie
 
 abbrev Inv-loop : tie.InvT-loop
-Inv-loop part₀ w to fs kind value x first end v₀ part v =
-    (first ≤ v) × (v ≤ end) × Put (setAt part₀ w to ∖ (stretch first v ∩ clashing fs kind value x)) w to part₀ part
+Inv-loop part₀ w to fs x kind value end v₀ part v =
+    (v₀ ≤ v) × (v ≤ end) × Put (setAt part₀ w to ∖ (stretch v₀ v ∩ clashing fs kind value x)) w to part₀ part
 
 abbrev μ-loop : tie.MeasureT-loop
-μ-loop part₀ w to fs kind value x first end v₀ part v = end - v
+μ-loop part₀ w to fs x kind value end v₀ part v = end - v
 
 loop-holds : tie.Need-loop-holds Inv-loop μ-loop
 loop-holds c = (search needs, search needs, struck-none _ _ _ _ _)
@@ -26,7 +26,8 @@ loop-again c =
     (search needs, search needs, struck-more _ _ _ (l .inv .0) (l .inv .2) (c .before .before .strike-one .ensures))
 
 returns : tie.Need-returns Inv-loop μ-loop
-returns c = let e : c .before .loop .v ≡ c .before .before .before .before .args .end = omega arith in rw e at (c .before .loop .inv .2)
+returns c = let e : c .before .loop .v ≡ c .before .before .before .before .args .s .end = omega arith in
+    rw e at (c .before .loop .inv .2)
 
 pub strike-near-spec : {M : Type 1} → statement M
 strike-near-spec =

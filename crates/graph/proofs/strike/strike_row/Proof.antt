@@ -14,8 +14,14 @@ strike-unlisted-requires : tie.Need-strike-unlisted-requires
 strike-unlisted-requires c κs =
     let s = c .before .before .before .before .before .before .before in
     let f = s .pre .1 in
-    let b = c .before .before .before .row-at .ensures in
-    (s .pre .0, c .before .before .if1 .taken, f .wide, f .small, omega arith, rw (b .here) (s .pre .4))
+    let b = c .before .before .before .row-at .ensures in (
+      s .pre .0 .pairs (c .before .before .if1 .taken),
+      s .pre .0 .order,
+      omega (arith, s .pre .0 .other),
+      f .small,
+      omega arith,
+      rw (b .here) (s .pre .4),
+    )
 
 returns : tie.Need-returns
 returns c =
@@ -23,7 +29,8 @@ returns c =
     let a = s .args in
     let r = c .before .before .before .before .before .before in
     row-struck (barred (a .fs .now) (a .ps .now) (a .s)) _ _ _ (a .u) _ (s .pre .3) (r .row-at .ensures .here)
-    (put-as (ap (λ (X : Set). setAt (a .part .now) (a .w) (r .row-at .result) ∖ X) (barred-listed (a .fs .now) (a .ps .now) (a .s) (a .u) (c .before .before .before .before .before .if1 .taken)))
+    (put-as (ap (λ (X : Set). setAt (a .part .now) (a .place .w) (r .row-at .result) ∖ X)
+    (barred-listed (a .fs .now) (a .ps .now) (a .s) (a .u) (c .before .before .before .before .before .if1 .taken)))
     (c .before .before .strike-unlisted .ensures))
 
 strike-near-requires : tie.Need-strike-near-requires
@@ -40,7 +47,8 @@ returns-2 c =
     let a = s .args in
     let r = c .before .before .before .before .before .before in
     row-struck (barred (a .fs .now) (a .ps .now) (a .s)) _ _ _ (a .u) _ (s .pre .3) (r .row-at .ensures .here)
-    (put-as (ap (λ (X : Set). setAt (a .part .now) (a .w) (r .row-at .result) ∖ X) (barred-plain (a .fs .now) (a .ps .now) (a .s) (a .u) (c .before .before .before .before .before .if1 .left)))
+    (put-as (ap (λ (X : Set). setAt (a .part .now) (a .place .w) (r .row-at .result) ∖ X)
+    (barred-plain (a .fs .now) (a .ps .now) (a .s) (a .u) (c .before .before .before .before .before .if1 .left)))
     (rw (c .before .before .before .freq .ensures .0) at (c .before .before .strike-near .ensures)))
 
 pub strike-row-spec : {M : Type 1} → statement M

@@ -13,11 +13,12 @@ use Rattle.graph.proofs.strike.strike_side.Statement.{statement}
 use Rattle.graph.proofs.strike.strike_side.Tie as tie
 
 abbrev Inv-loop : tie.InvT-loop
-Inv-loop part₀ w graph n fs ps s u₀ part u =
-    (s .from ≤ u) × (u ≤ s .upto) × RowsFit w graph n (length part) × Struck (barred fs ps s) (s .from) u w graph n part₀ part
+Inv-loop part₀ place fs ps s u₀ part u =
+    (s .from ≤ u) × (u ≤ s .upto) × RowsFit (place .w) (place .graph) (place .n) (length part)
+    × Struck (barred fs ps s) (s .from) u (place .w) (place .graph) (place .n) part₀ part
 
 abbrev μ-loop : tie.MeasureT-loop
-μ-loop part₀ w graph n fs ps s u₀ part u = s .upto - u
+μ-loop part₀ place fs ps s u₀ part u = s .upto - u
 
 loop-holds : tie.Need-loop-holds Inv-loop μ-loop
 loop-holds c = (search needs, search needs, c .before .before .before .pre .1, rows-none _ _ _ _ _ _)
@@ -26,16 +27,26 @@ strike-row-requires : tie.Need-strike-row-requires Inv-loop μ-loop
 strike-row-requires c κs =
     let s = c .before .before .before .before .before .before .before in
     let l = c .before .before .before .loop in
-    let h : l .u < s .args .n = omega (arith, s .pre .0 .own, c .before .if1 .taken) in
-    (s .pre .0, l .inv .2, l .inv .0, h, λ v e. ap (λ (X : Set). X v) (l .inv .3 .others (l .u) h (λ a b. omega arith)) ∙ s .pre .3 .row (l .u) (l .inv .0) (c .before .if1 .taken) v e)
+    let h : l .u < s .args .place .n = omega (arith, s .pre .0 .own, c .before .if1 .taken) in (
+      s .pre .0,
+      l .inv .2,
+      l .inv .0,
+      h,
+      λ v e. ap (λ (X : Set). X v) (l .inv .3 .others (l .u) h (λ a b. omega arith))
+          ∙ s .pre .3 .row (l .u) (l .inv .0) (c .before .if1 .taken) v e,
+    )
 
 loop-again : tie.Need-loop-again Inv-loop μ-loop
 loop-again c =
     let s = c .before .before .before .before .before .before .before .before .before .before in
     let l = c .before .before .before .before .before .before .loop in
     let t = c .before .before .before .before .if1 .taken in
-    let x = c .before .before .strike-row .ensures in
-    (search needs, omega arith, fit-same (l .inv .2) (x .rest), rows-more _ _ _ _ _ _ (l .inv .0) (omega (arith, s .pre .0 .own)) (l .inv .3) x)
+    let x = c .before .before .strike-row .ensures in (
+      search needs,
+      omega arith,
+      fit-same (l .inv .2) (x .rest),
+      rows-more _ _ _ _ _ _ (l .inv .0) (omega (arith, s .pre .0 .own)) (l .inv .3) x,
+    )
 
 returns : tie.Need-returns Inv-loop μ-loop
 returns c =

@@ -11,40 +11,45 @@ use Rattle.graph.proofs.strike.strike_unlisted.Statement.{statement}
 use Rattle.graph.proofs.strike.strike_unlisted.Tie as tie
 
 abbrev Inv-loop : tie.InvT-loop
-Inv-loop part₀ w to fs ps n x value count turned first end i₀ part i =
+Inv-loop part₀ w to ps x value count turned first end i₀ part i =
     (i ≤ count) × Put (setAt part₀ w to ∪ partners ps turned first x value i) w to part₀ part
 
 abbrev μ-loop : tie.MeasureT-loop
-μ-loop part₀ w to fs ps n x value count turned first end i₀ part i = count - i
+μ-loop part₀ w to ps x value count turned first end i₀ part i = count - i
 
 loop-holds : tie.Need-loop-holds Inv-loop μ-loop
 loop-holds c = (search needs, partners-put-none _ _ _ _ _ _ _ _)
 
 add-add-partner : tie.Need-add-add-partner Inv-loop μ-loop
 add-add-partner c =
-    let s = c .before .before .before .before .before .before .before .before .before .before in
-    let f = s .pre .0 .pairs (s .pre .1) (c .before .before .loop .i) (c .before .loop-test .taken) in
+    let s = c .before .before .before .before .before .before .before .before .before in
+    let f = s .pre .0 (c .before .before .loop .i) (c .before .loop-test .taken) in
     omega arith
 
 add-partner-requires : tie.Need-add-partner-requires Inv-loop μ-loop
 add-partner-requires c κs =
-    let s = c .before .before .before .before .before .before .before .before .before .before in
-    let f = s .pre .0 .pairs (s .pre .1) (c .before .before .loop .i) (c .before .loop-test .taken) in
+    let s = c .before .before .before .before .before .before .before .before .before in
+    let f = s .pre .0 (c .before .before .loop .i) (c .before .loop-test .taken) in
     let e = c .before .before .loop .inv .1 .rest .len in
     let g = c .before .before .before .before .before .take-span .ensures .rest .len in
-    (omega arith, f .0, omega (arith, s .pre .0 .other), s .pre .3)
+    (omega arith, f .0, omega arith, s .pre .3)
 
 loop-again : tie.Need-loop-again Inv-loop μ-loop
-loop-again c = (search needs, partners-put-more _ _ _ _ _ _ _ (c .before .before .before .before .before .loop .inv .1) (c .before .before .add-partner .ensures))
+loop-again c = (
+  search needs,
+  partners-put-more _ _ _ _ _ _ _ (c .before .before .before .before .before .loop .inv .1)
+      (c .before .before .add-partner .ensures),
+)
 
 returns : tie.Need-returns Inv-loop μ-loop
 returns c =
-    let s = c .before .before .before .before .before .before .before .before .before in
+    let s = c .before .before .before .before .before .before .before .before in
     let a = s .args in
     let l = c .before .loop in
     let e : l .i ≡ a .s .count = omega arith in
     unlisted-put (stretch (a .s .first) (a .s .end)) _
-    (partners-in (a .ps .now) (a .s .turned) (a .s .first) (a .x) (a .s .value) (a .s .count) (a .s .end) (λ i h. s .pre .0 .pairs (s .pre .1) i h .1)) (s .pre .5)
+    (partners-in (a .ps .now) (a .s .turned) (a .s .first) (a .x) (a .s .value) (a .s .count) (a .s .end)
+    (λ i h. s .pre .0 i h .1)) (s .pre .5)
     (c .before .before .before .before .take-span .ensures) (rw e at (l .inv .1))
 
 pub strike-unlisted-spec : {M : Type 1} → statement M

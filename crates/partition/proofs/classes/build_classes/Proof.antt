@@ -1,9 +1,10 @@
--- `partition::classes::build_classes` meets its contract. The order is there when the classes are filled, and the layers are kept beside it.
+-- `partition::classes::build_classes` meets its contract. The order is there when the classes are filled, and the
+-- layers are kept beside it.
 use borrow.Author.Needs.{needs}
 use Prim.Native.Nat.{_<_}
 use mathlib.Core.Path.{sym, _∙_}
 use native.Mathlib.Omega.{arith}
-use Rattle.partition.proofs.Filling.{layers-kept, wrote, built-own, built-layers, space-stays}
+use Rattle.partition.proofs.Filling.{layers-kept, wrote, built-own, built-layers, room-stays}
 use Rattle.partition.proofs.classes.build_classes.Statement.{statement}
 use Rattle.partition.proofs.classes.build_classes.Tie as tie
 
@@ -25,8 +26,13 @@ fill-classes-requires c κs =
     let x = c .before .before .before .before in
     let y = x .before .before .before .before .before in
     let z = y .before .before .before .before in
-    let s = z .before .before .before .before in
-    (space-stays (x .keep-classes .ensures .rest) (space-stays (y .put-order .ensures .rest) (space-stays (z .put-degrees .ensures .rest) (s .pre .0))), s .pre .1, y .put-order .ensures .few, s .pre .2)
+    let s = z .before .before .before .before in (
+      room-stays (x .keep-classes .ensures .rest) (room-stays (y .put-order .ensures .rest)
+          (room-stays (z .put-degrees .ensures .rest) (s .pre .0))),
+      s .pre .1,
+      y .put-order .ensures .few,
+      s .pre .2,
+    )
 
 returns : tie.Need-returns
 returns c =
@@ -36,7 +42,8 @@ returns c =
     let x₁ = z .before .before .before .before .before in
     let y₁ = x₁ .before .before .before .before in
     let s = y₁ .before .before .before .before in
-    built-own (s .pre .0) (s .pre .1) (y₁ .put-degrees .ensures) (x₁ .put-order .ensures) (z .keep-classes .ensures) (y .fill-classes .ensures)
+    built-own (s .pre .0) (s .pre .1) (y₁ .put-degrees .ensures) (x₁ .put-order .ensures) (z .keep-classes .ensures)
+    (y .fill-classes .ensures)
     (sym (x .is-placed .ensures) ∙ c .if1 .taken)
 
 put-back-requires : tie.Need-put-back-requires
@@ -47,10 +54,13 @@ put-back-requires c κs =
     let x₁ = z .before .before .before .before in
     let y₁ = x₁ .before .before in
     let s = y₁ .before .before in
-    let e = layers-kept (s .pre .0) (s .pre .1) (x₁ .put-degrees .ensures) (z .put-order .ensures) (y .keep-classes .ensures) (x .fill-classes .ensures) in
-    let o = wrote (s .pre .0) (s .pre .1) (x₁ .put-degrees .ensures) (z .put-order .ensures) (y .keep-classes .ensures) (x .fill-classes .ensures) in (
+    let e = layers-kept (s .pre .0) (s .pre .1) (x₁ .put-degrees .ensures) (z .put-order .ensures)
+    (y .keep-classes .ensures) (x .fill-classes .ensures) in
+    let o = wrote (s .pre .0) (s .pre .1) (x₁ .put-degrees .ensures) (z .put-order .ensures) (y .keep-classes .ensures)
+    (x .fill-classes .ensures) in (
       omega (arith, x .fill-classes .ensures .size, o .len, s .pre .0 .front, s .pre .0 .rows),
-      λ v h. let l : v < s .args .n = omega (arith, x .fill-classes .ensures .size) in omega (arith, e v l, y₁ .slice-known2 .given v),
+      λ v h. let l : v < s .args .place .n = omega (arith, x .fill-classes .ensures .size) in
+          omega (arith, e v l, y₁ .slice-known2 .given v),
     )
 
 returns-2 : tie.Need-returns-2
@@ -63,7 +73,8 @@ returns-2 c =
     let z₁ = y₁ .before .before .before .before .before in
     let x₂ = z₁ .before .before .before .before in
     let s = x₂ .before .before .before .before in
-    built-layers (s .pre .0) (s .pre .1) (x₂ .put-degrees .ensures) (z₁ .put-order .ensures) (y₁ .keep-classes .ensures) (x₁ .fill-classes .ensures)
+    built-layers (s .pre .0) (s .pre .1) (x₂ .put-degrees .ensures) (z₁ .put-order .ensures)
+    (y₁ .keep-classes .ensures) (x₁ .fill-classes .ensures)
     (sym (z .is-placed .ensures) ∙ y .if1 .left) (x .put-back .ensures)
 
 pub build-classes-spec : {M : Type 1} → statement M

@@ -2,15 +2,15 @@
 use borrow.Author.Needs.{needs}
 use Prim.Native.Nat.{_-_}
 use native.Mathlib.Omega.{arith}
-use Rattle.partition.proofs.Filling.{FillingAll, filling-all-none, filling-all-more, filling-all-done, space-stays}
+use Rattle.partition.proofs.Filling.{FillingAll, filling-all-none, filling-all-more, filling-all-done, room-stays}
 use Rattle.partition.proofs.classes.fill_classes.Statement.{statement}
 use Rattle.partition.proofs.classes.fill_classes.Tie as tie
 
 abbrev Inv-loop : tie.InvT-loop
-Inv-loop part₀ w graph n k m cls₀ c₀ part cls c = FillingAll w graph n k m part₀ part cls c
+Inv-loop part₀ place m cls₀ k c₀ part cls c = FillingAll place m part₀ part cls c
 
 abbrev μ-loop : tie.MeasureT-loop
-μ-loop part₀ w graph n k m cls₀ c₀ part cls c = k - c
+μ-loop part₀ place m cls₀ k c₀ part cls c = k - c
 
 loop-holds : tie.Need-loop-holds Inv-loop μ-loop
 loop-holds c =
@@ -22,7 +22,7 @@ fill-class-requires : tie.Need-fill-class-requires Inv-loop μ-loop
 fill-class-requires c κs =
     let x = c .before .before .before in
     let s = x .before .before .before .before .before .before .before in
-    (space-stays (x .loop .inv .rest) (s .pre .0), x .loop .inv .long, s .pre .2, omega arith)
+    (room-stays (x .loop .inv .rest) (s .pre .0), x .loop .inv .long, s .pre .2, omega arith)
 
 loop-again : tie.Need-loop-again Inv-loop μ-loop
 loop-again c =

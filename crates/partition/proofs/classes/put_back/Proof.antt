@@ -11,7 +11,8 @@ use Rattle.partition.proofs.classes.put_back.Statement.{statement}
 use Rattle.partition.proofs.classes.put_back.Tie as tie
 
 abbrev Inv-loop : tie.InvT-loop
-Inv-loop part cls₀ v₀ cls v = (v ≤ length cls₀) × (length cls ≡ length cls₀) × (cls ≡ tabulate v (λ (v : ℕ). getD part v 0) ++ drop v cls₀)
+Inv-loop part cls₀ v₀ cls v = (v ≤ length cls₀) × (length cls ≡ length cls₀)
+    × (cls ≡ tabulate v (λ (v : ℕ). getD part v 0) ++ drop v cls₀)
 
 abbrev μ-loop : tie.MeasureT-loop
 μ-loop part cls₀ v₀ cls v = length cls₀ - v
@@ -23,7 +24,11 @@ cast-cls c =
     omega (arith, s .pre .1 (x .loop .v) (omega arith))
 
 loop-again : tie.Need-loop-again Inv-loop μ-loop
-loop-again c = (omega arith, simp length-set (c .before .before .loop .inv .1), tab-more _ _ _ _ _ (omega arith) (c .before .before .loop .inv .2) refl)
+loop-again c = (
+  omega arith,
+  simp length-set (c .before .before .loop .inv .1),
+  tab-more _ _ _ _ _ (omega arith) (c .before .before .loop .inv .2) refl,
+)
 
 pub put-back-spec : {M : Type 1} → statement M
 put-back-spec =

@@ -1,4 +1,5 @@
--- `partition::classes::try_join` meets its contract. The row of v against the row of the class says whether v is adjacent to none in it.
+-- `partition::classes::try_join` meets its contract. The row of v against the row of the class says whether v is
+-- adjacent to none in it.
 use borrow.Author.Needs.{needs}
 use mathlib.Core.Path.{sym, _∙_}
 use native.Mathlib.Omega.{arith}
@@ -19,7 +20,9 @@ returns-3 c =
     let y = x .before .before in
     let z = y .before .before .before in
     let r = x .is-empty-common .result in
-    left-out (λ adj R e. join-barred _ _ adj _ _ _ (sym (free-is _ _ _ _ (z .if1 .left) (y .row-at .ensures .here) R e (x .is-empty-common .ensures)) ∙ not-true r (c .if3 .taken)))
+    left-out (λ adj R e. join-barred _ _ adj _ _ _ (sym
+    (free-is _ _ _ _ (z .if1 .left) (y .row-at .ensures .here) R e (x .is-empty-common .ensures))
+    ∙ not-true r (c .if3 .taken)))
 
 returns-4 : tie.Need-returns-4
 returns-4 c =
@@ -32,7 +35,8 @@ returns-4 c =
     let s = z₁ .before .before .before in
     let r = z .is-empty-common .result in
     taken-in (z₁ .if1 .left) (s .pre .1) (y₁ .if2 .left)
-    (λ adj R e. sym (free-is _ _ _ _ (z₁ .if1 .left) (x₁ .row-at .ensures .here) R e (z .is-empty-common .ensures)) ∙ not-false r (y .if3 .left))
+    (λ adj R e. sym (free-is _ _ _ _ (z₁ .if1 .left) (x₁ .row-at .ensures .here) R e (z .is-empty-common .ensures))
+    ∙ not-false r (y .if3 .left))
     (x .take-in .ensures .0) (x .take-in .ensures .1)
 
 pub try-join-spec : {M : Type 1} → statement M

@@ -22,8 +22,12 @@ loop-again c =
     let s = x .before in
     let a = s .args in
     let v = x .loop .v in
-    let h : v < length (a .cls .now) = omega arith in
-    (omega arith, simp length-set (x .loop .inv .1), ap (λ (l : List _). set l v (a .k)) (x .loop .inv .2) ∙ fill-more v (a .k) (a .cls .now) h)
+    let h : v < length (a .cls .now) = omega arith in (
+      omega arith,
+      simp length-set (x .loop .inv .1),
+      ap (λ (l : List _). set l v (a .k)) (x .loop .inv .2)
+          ∙ fill-more v (a .k) (a .cls .now) h,
+    )
 
 returns : tie.Need-returns Inv-loop μ-loop
 returns c =
@@ -31,7 +35,8 @@ returns c =
     let s = x .before in
     let a = s .args in
     let e : x .loop .v ≡ length (a .cls .now) = omega arith in
-    (rw e at (x .loop .inv .2)) ∙ ap (λ (z : List _). replicate (length (a .cls .now)) (a .k) ++ z) (drop-length (a .cls .now)) ∙ append-nil _
+    (rw e at (x .loop .inv .2)) ∙ ap (λ (z : List _). replicate (length (a .cls .now)) (a .k) ++ z)
+    (drop-length (a .cls .now)) ∙ append-nil _
 
 pub unplace-spec : {M : Type 1} → statement M
 unplace-spec =

@@ -30,7 +30,9 @@ unfolding listsPair
 returns c = search (needs, any-stops, sym)
 
 loop-again : tie.Need-loop-again Inv-loop μ-loop
-loop-again c = (omega arith, any-goes-on _ _ _ (c .before .before .before .loop .inv .1) (c .before .is-pair .ensures) (c .if1 .left))
+loop-again c =
+    let h = c .before .before .before .loop .inv in
+    (omega arith, any-goes-on _ _ _ (h .1) (c .before .is-pair .ensures) (c .if1 .left))
 
 returns-2 : tie.Need-returns-2 Inv-loop μ-loop
 unfolding listsPair

@@ -1,33 +1,42 @@
 -- `rules::plans::has_freq` meets its contract.
 use borrow.Author.Needs.{needs}
 use denote.Ref.{now}
-use native.Mathlib.Omega.{arith}
-use Rattle.sheet.proofs.Links.{link-in}
-use Rattle.rules.proofs.Laws.{has-freq-is}
+use Rattle.sheet.specs.Sheet.{freqPart, linkPart}
+use Rattle.rules.proofs.Laws.{freqs-there, has-freq-is, link-there}
 use Rattle.rules.proofs.plans.has_freq.Statement.{statement}
 use Rattle.rules.proofs.plans.has_freq.Tie as tie
 
+link-count-requires : tie.Need-link-count-requires
+link-count-requires c κs = let h = c .before .before .pre in rw (c .link-part .ensures) (link-there (h .0) (h .1))
+
+link-first-requires : tie.Need-link-first-requires
+link-first-requires c κs =
+    let h = c .before .before .before .before .pre in
+    rw (c .before .before .link-part .ensures) (link-there (h .0) (h .1))
+
 place-requires : tie.Need-place-requires
 place-requires c κs =
-    let a = c .before .before .before .before .args in
-    let i = link-in (now (a .ls)) (a .k) (a .n) (c .before .before .before .before .pre .2) (a .l) (c .before .before .before .before .pre .3) in
-    omega arith
+    let h = c .before .before .before .before .before .pre in
+    rw (
+      c .link-first .ensures .0,
+      c .before .before .link-count .ensures .0,
+      c .before .freq-part .ensures,
+      c .before .before .before .link-part .ensures,
+    )
+    (freqs-there (h .0) (h .1))
 
 returns : tie.Need-returns
 returns c =
-    let a = c .before .before .before .before .before .args in
-    rw (
-      ← has-freq-is (now (a .ls)) (now (a .fs)) (a .l) (a .x),
-      ← c .before .before .link-count .ensures .0,
-      ← c .before .link-first .ensures .0,
-      ← c .place .ensures,
-    )
+    let a = c .before .before .before .before .before .before .args in
+    cc (has-freq-is (linkPart (now (a .s))) (freqPart (now (a .s))) (a .l) (a .x))
 
 pub has-freq-spec : {M : Type 1} → statement M
 has-freq-spec =
     tie.close
     (tie.spec
     (λ c κs. search needs)
+    link-count-requires
     (λ c κs. search needs)
+    link-first-requires
     place-requires
     returns)

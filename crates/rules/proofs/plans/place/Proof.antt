@@ -26,17 +26,25 @@ loop-holds c = (omega arith, any-none _)
 returns : tie.Need-returns Inv-loop μ-loop
 unfolding placeOf
 returns c =
-    sym (first-found _ _ _ (c .before .before .loop-test .taken) (c .before .before .before .loop .inv .1) (rw (← c .before .freq .ensures .0) (eq-eqb _ _ (c .if1 .taken))))
+    sym
+    (first-found _ _ _ (c .before .before .loop-test .taken) (c .before .before .before .loop .inv .1)
+    (rw (← c .before .freq .ensures .0) (eq-eqb _ _ (c .if1 .taken))))
 
 loop-again : tie.Need-loop-again Inv-loop μ-loop
-loop-again c =
-    (omega arith, any-goes-on _ _ _ (c .before .before .before .loop .inv .1) refl (rw (← c .before .freq .ensures .0) (ne-eqb _ _ (c .if1 .left))))
+loop-again c = (
+  omega arith,
+  any-goes-on _ _ _ (c .before .before .before .loop .inv .1) refl
+      (rw (← c .before .freq .ensures .0) (ne-eqb _ _ (c .if1 .left))),
+)
 
 returns-2 : tie.Need-returns-2 Inv-loop μ-loop
 unfolding placeOf
 returns-2 c =
     let a = c .before .before .before .args in
-    sym (first-none (a .count) (λ m. eqb (freq (now (a .fs)) (a .from + m)) (a .x)) (any-ends (a .count) (c .before .loop .i) _ (c .before .loop .inv .0) (omega arith) (c .before .loop .inv .1)))
+    let v = c .before .loop in
+    sym
+    (first-none (a .count) (λ m. eqb (freq (now (a .fs)) (a .from + m)) (a .x))
+    (any-ends (a .count) (v .i) _ (v .inv .0) (omega arith) (v .inv .1)))
 
 pub place-spec : {M : Type 1} → statement M
 place-spec =

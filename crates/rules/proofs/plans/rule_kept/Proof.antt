@@ -2,58 +2,76 @@
 use borrow.Author.Needs.{needs}
 use denote.Ref.{now}
 use mathlib.Core.Path.{_≡_}
-use mathlib.Core.Bool.{true}
 use native.Mathlib.Omega.{arith}
-use Rattle.rules.specs.Plans.{cellsOf, hasFreq, ruleKept}
-use Rattle.rules.proofs.Laws.{listed-at, rule-links, vertex-in}
+use Rattle.sheet_rows.specs.Rows.{ruleA, ruleB}
+use Rattle.sheet.specs.Sheet.{rulePart}
+use Rattle.rules.specs.Plans.{ruleKept}
+use Rattle.rules.proofs.Laws.{RuleTaken, rule-taken, vertex-in}
 use Rattle.rules.proofs.plans.rule_kept.Statement.{statement}
 use Rattle.rules.proofs.plans.rule_kept.Tie as tie
 
-listed-a : (c : tie.After-wide) → let a = c .before .before .before .before .before .before .before .before .before .args in hasFreq (now (a .ls)) (now (a .fs)) (c .before .before .before .rule-a .result) (c .wide .result) ≡ true
-listed-a c =
-    let a = c .before .before .before .before .before .before .before .before .before .args in
-    let o = rule-links (c .before .before .before .before .before .before .before .before .before .pre .0) (a .j) (c .before .before .before .before .before .before .before .before .before .pre .3) in
-    rw (c .wide .ensures) (listed-at (now (a .ls)) (now (a .fs)) (a .k) (cellsOf (now (a .cells))) (c .before .before .before .rule-a .result) (c .before .before .before .before .before .before .before .before .before .pre .2) (omega arith))
+-- what is known once the rule's links are read
+taken : (c : tie.After-rule-b) →
+    let a = c .before .before .before .before .before .args in RuleTaken (now (a .s)) (now (a .cells)) (a .j)
+taken c = let h = c .before .before .before .before .before .pre in rule-taken (h .0) (h .1)
 
-listed-b : (c : tie.After-wide2) → let a = c .before .before .before .before .before .before .before .before .before .before .before .before .args in hasFreq (now (a .ls)) (now (a .fs)) (c .before .before .before .before .before .rule-b .result) (c .wide2 .result) ≡ true
-listed-b c =
-    let a = c .before .before .before .before .before .before .before .before .before .before .before .before .args in
-    let o = rule-links (c .before .before .before .before .before .before .before .before .before .before .before .before .pre .0) (a .j) (c .before .before .before .before .before .before .before .before .before .before .before .before .pre .3) in
-    rw (c .wide2 .ensures) (listed-at (now (a .ls)) (now (a .fs)) (a .k) (cellsOf (now (a .cells))) (c .before .before .before .before .before .rule-b .result) (c .before .before .before .before .before .before .before .before .before .before .before .before .pre .2) (omega arith))
+link-a : (c : tie.After-rule-b) →
+    let a = c .before .before .before .before .before .args in
+    c .before .rule-a .result ≡ ruleA (rulePart (now (a .s))) (a .j)
+link-a c = rw (← c .before .before .rule-part .ensures) (c .before .rule-a .ensures .0)
+
+link-b : (c : tie.After-rule-b) →
+    let a = c .before .before .before .before .before .args in c .rule-b .result ≡ ruleB (rulePart (now (a .s))) (a .j)
+link-b c = rw (← c .before .before .rule-part .ensures) (c .rule-b .ensures .0)
+
+rule-a-requires : tie.Need-rule-a-requires
+rule-a-requires c κs =
+    let h = c .before .before .before .pre in rw (c .rule-part .ensures) (rule-taken (h .0) (h .1) .row)
+
+rule-b-requires : tie.Need-rule-b-requires
+rule-b-requires c κs =
+    let h = c .before .before .before .before .pre in rw (c .before .rule-part .ensures) (rule-taken (h .0) (h .1) .row)
 
 shared-slice-read-wide : tie.Need-shared-slice-read-wide
-shared-slice-read-wide c = let o = rule-links (c .before .before .before .before .before .before .before .before .pre .0) (c .before .before .before .before .before .before .before .before .args .j) (c .before .before .before .before .before .before .before .before .pre .3) in omega arith
+shared-slice-read-wide c = omega (arith, link-a (c .before), taken (c .before))
 
 vertex-requires : tie.Need-vertex-requires
 vertex-requires c κs =
-    let P = c .before .before .before .before .before .before .before .before .before .pre .0 in
-    let o = rule-links P (c .before .before .before .before .before .before .before .before .before .args .j) (c .before .before .before .before .before .before .before .before .before .pre .3) in
-    (P .link-rows, P .freq-rows, P .links, omega arith, listed-a c)
+    let b = c .before .before in
+    let t = taken b in
+    let h = b .before .before .before .before .before .pre in
+    (h .0 .accepted, rw (link-a b) (t .lowA), rw (c .wide .ensures, link-a b) (t .listedA))
 
 shared-slice-read-wide-2 : tie.Need-shared-slice-read-wide-2
-shared-slice-read-wide-2 c = let o = rule-links (c .before .before .before .before .before .before .before .before .before .before .before .pre .0) (c .before .before .before .before .before .before .before .before .before .before .before .args .j) (c .before .before .before .before .before .before .before .before .before .before .before .pre .3) in omega arith
+shared-slice-read-wide-2 c =
+    let b = c .before .before .before .before in omega (arith, link-b b, taken b)
 
 vertex-requires-2 : tie.Need-vertex-requires-2
 vertex-requires-2 c κs =
-    let P = c .before .before .before .before .before .before .before .before .before .before .before .before .pre .0 in
-    let o = rule-links P (c .before .before .before .before .before .before .before .before .before .before .before .before .args .j) (c .before .before .before .before .before .before .before .before .before .before .before .before .pre .3) in
-    (P .link-rows, P .freq-rows, P .links, omega arith, listed-b c)
+    let b = c .before .before .before .before .before in
+    let t = taken b in
+    let h = b .before .before .before .before .before .pre in
+    (h .0 .accepted, rw (link-b b) (t .lowB), rw (c .wide2 .ensures, link-b b) (t .listedB))
 
 row-allows-requires : tie.Need-row-allows-requires
 row-allows-requires c κs =
+    let b = c .before .before .before .before .before .before in
+    let t = taken b in
+    let h = b .before .before .before .before .before .pre in
+    let a = c .before .before .before in
     record {
-      parts = c .before .before .before .before .before .before .before .before .before .before .before .before .before .pre .0;
-      among = c .before .before .before .before .before .before .before .before .before .before .before .before .before .pre .3;
-      inA = rw (← c .before .before .before .before .before .before .before .rule-a .ensures .0, c .before .before .before .vertex .ensures) (vertex-in _ _ _ _ (listed-a (c .before .before .before .before)));
-      inB = rw (← c .before .before .before .before .before .before .rule-b .ensures .0, c .vertex2 .ensures) (vertex-in _ _ _ _ (listed-b (c .before)));
+      accepted = h .0 .accepted;
+      among = h .1;
+      inA = rw (a .vertex .ensures, a .before .wide .ensures, link-a b) (vertex-in _ _ _ _ (t .listedA));
+      inB = rw (c .vertex2 .ensures, c .before .wide2 .ensures, link-b b) (vertex-in _ _ _ _ (t .listedB));
     }
 
 returns : tie.Need-returns
 unfolding ruleKept
 returns c =
     rw (
-      ← c .before .before .before .before .before .before .before .before .rule-a .ensures .0,
-      ← c .before .before .before .before .before .before .before .rule-b .ensures .0,
+      ← link-a (c .before .before .before .before .before .before .before),
+      ← link-b (c .before .before .before .before .before .before .before),
       ← c .before .before .before .before .before .wide .ensures,
       ← c .before .before .wide2 .ensures,
       ← c .before .before .before .before .vertex .ensures,
@@ -66,7 +84,8 @@ rule-kept-spec =
     tie.close
     (tie.spec
     (λ c κs. search needs)
-    (λ c κs. search needs)
+    rule-a-requires
+    rule-b-requires
     (λ c. search needs)
     shared-slice-read-wide
     (λ c κs. search needs)

@@ -5,17 +5,27 @@ use Rattle.search.proofs.from_root.search_setting.Statement.{statement}
 use Rattle.search.proofs.from_root.search_setting.Tie as tie
 
 returns : tie.Need-returns
-returns c = no-class (c .before .before .before .before .before .before .pre .0) _ (c .before .before .is-open .ensures) (c .before .if1 .taken) (c .no-nodes .ensures)
+returns c =
+    let o = c .before .before in
+    let s = o .before .before .before .before in
+    no-class (s .pre .0) _ (o .is-open .ensures) (c .before .if1 .taken) (c .no-nodes .ensures)
 
 returns-2 : tie.Need-returns-2
 returns-2 c =
-    with-pre-filter (c .before .before .before .before .before .before .before .before .before .before .before .before .before .pre .0) _ (c .before .before .before .before .before .before .before .before .before .is-open .ensures) (c .before .before .before .before .before .before .before .before .if1 .left)
-    (c .before .before .before .before .before .before .before .if2 .taken) (c .before .before .before .before .after-pre-filter .ensures)
+    let a = c .before .before .before .before in
+    let t = a .before .before .before in
+    let o = t .before .before in
+    let s = o .before .before .before .before in
+    with-pre-filter (s .pre .0) _ (o .is-open .ensures) (t .before .if1 .left) (t .if2 .taken)
+    (a .after-pre-filter .ensures)
 
 returns-3 : tie.Need-returns-3
 returns-3 c =
-    without-pre-filter (c .before .before .before .before .before .before .before .before .before .before .before .before .before .pre .0) _ (c .before .before .before .before .before .before .before .before .before .is-open .ensures) (c .before .before .before .before .before .before .before .before .if1 .left)
-    (c .before .before .before .before .before .before .before .if2 .left) (c .before .before .before .before .run .ensures)
+    let a = c .before .before .before .before in
+    let t = a .before .before .before in
+    let o = t .before .before in
+    let s = o .before .before .before .before in
+    without-pre-filter (s .pre .0) _ (o .is-open .ensures) (t .before .if1 .left) (t .if2 .left) (a .run .ensures)
 
 pub search-setting-spec : {M : Type 1} → statement M
 search-setting-spec =

@@ -13,24 +13,26 @@ use Rattle.sheet.proofs.freq_rows.freqs.Statement.{statement}
 use Rattle.sheet.proofs.freq_rows.freqs.Tie as tie
 
 abbrev Inv-loop : tie.InvT-loop
-Inv-loop ls p k n l₀ l = (l ≤ k) × (all l (linkFreqsOk ls p) ≡ true)
+Inv-loop ls p k l₀ l = (l ≤ k) × (all l (linkFreqsOk ls p) ≡ true)
 
 abbrev μ-loop : tie.MeasureT-loop
-μ-loop ls p k n l₀ l = k - l
+μ-loop ls p k l₀ l = k - l
 
 loop-holds : tie.Need-loop-holds Inv-loop μ-loop
 loop-holds c = search (needs, all-none)
 
 -- what `rising` answers is whether the link's frequencies are right
 link-is : (c : tie.After-rising Inv-loop μ-loop) →
-    let a = c .before .before .before .before .before .before .before .args in c .rising .result ≡ linkFreqsOk (now (a .ls)) (now (a .p)) (c .before .before .before .before .loop .l)
+    let a = c .before .before .before .before .before .before .before .args in
+    c .rising .result ≡ linkFreqsOk (now (a .ls)) (now (a .p)) (c .before .before .before .before .loop .l)
 unfolding linkFreqsOk
 link-is c = cc
 
 rising-requires : tie.Need-rising-requires Inv-loop μ-loop
 rising-requires c κs =
     let a = c .before .before .before .before .before .before .args in
-    omega (arith, link-in (now (a .ls)) (a .k) (a .n) (c .before .before .before .before .before .before .pre .3) (c .before .before .before .loop .l) (omega arith))
+    let h = c .before .before .before .before .before .before .pre in
+    omega (arith, link-in (now (a .ls)) (a .k) (h .n) (h .links) (c .before .before .before .loop .l) (omega arith))
 
 returns : tie.Need-returns Inv-loop μ-loop
 unfolding freqsOk

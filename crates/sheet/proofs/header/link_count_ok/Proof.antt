@@ -6,7 +6,7 @@ use Rattle.sheet.proofs.header.link_count_ok.Tie as tie
 
 returns : tie.Need-returns
 unfolding linkCountOk
-returns c = rw (← c .word .ensures .0)
+returns c = rw (← c .links-of .ensures .0)
 
 pub link-count-ok-spec : {M : Type 1} → statement M
 link-count-ok-spec =

@@ -8,15 +8,15 @@ returns : tie.Need-returns
 unfolding offsetsOk tableOk
 returns c =
     rw (
-      ← c .before .before .before .before .before .before .before .before .word .ensures .0,
-      ← c .before .before .before .before .before .before .before .word2 .ensures .0,
-      ← c .before .before .before .before .before .before .word3 .ensures .0,
-      ← c .before .before .before .before .before .word4 .ensures .0,
-      ← c .before .before .before .before .word5 .ensures .0,
-      ← c .before .before .before .word6 .ensures .0,
-      ← c .before .before .word7 .ensures .0,
-      ← c .before .word8 .ensures .0,
-      ← c .word9 .ensures .0,
+      ← c .before .before .before .before .before .before .before .before .end-at .ensures .0,
+      ← c .before .pairs-at .ensures .0,
+      ← c .before .before .before .rules-at .ensures .0,
+      ← c .before .before .before .before .before .freqs-at .ensures .0,
+      ← c .before .before .before .before .before .before .before .word .ensures .0,
+      ← c .before .before .before .before .before .before .word2 .ensures .0,
+      ← c .before .before .before .before .word3 .ensures .0,
+      ← c .before .before .word4 .ensures .0,
+      ← c .word5 .ensures .0,
     )
 
 pub offsets-ok-spec : {M : Type 1} → statement M
@@ -24,17 +24,9 @@ offsets-ok-spec =
     tie.close
     (tie.spec
     (λ c κs. search needs)
-    (λ c. search needs)
-    (λ c. search needs)
     (λ c κs. search needs)
-    (λ c. search needs)
-    (λ c. search needs)
     (λ c κs. search needs)
-    (λ c. search needs)
-    (λ c. search needs)
     (λ c κs. search needs)
-    (λ c. search needs)
-    (λ c. search needs)
     (λ c κs. search needs)
     (λ c κs. search needs)
     (λ c κs. search needs)

@@ -1,8 +1,9 @@
--- The loop's invariant: the rows so far are right, and `sum` is the sum of their counts. A row that `link_row` hands on is right.
+-- The loop's invariant: the rows so far are right, and `sum` is the sum of their counts. A row that `link_row`
+-- hands on is right.
 use borrow.Author.Needs.{needs}
 use denote.Ref.{now}
 use Prim.Native.Nat.{_*_, _+_, _-_, _<_, _≤_}
-use mathlib.Core.Path.{_∙_, _≡_, sym}
+use mathlib.Core.Path.{_∙_, _≡_, ap, sym}
 use mathlib.Core.Bool.{false, true}
 use borrow.Author.Tests.{eq-eqb, ne-eqb}
 use native.Mathlib.Omega.{arith}
@@ -10,7 +11,7 @@ use Rattle.sets.specs.Below.{all, sumTo}
 use Rattle.sets.proofs.Tests.{and-in}
 use Rattle.sets.proofs.Below.{all-none, all-step, sum-more, sum-none}
 use Rattle.sheet_rows.specs.Rows.{linkCount}
-use Rattle.sheet.specs.Sheet.{linkOk}
+use Rattle.sheet.specs.Sheet.{linkOk, rowRead}
 use Rattle.sheet.proofs.Causes.{unless-false, unless-true}
 use Rattle.sheet.proofs.Links.{links-are, links-false, row-bad, row-link}
 use Rattle.sheet.proofs.link_rows.links.Statement.{statement}
@@ -29,8 +30,9 @@ returns : tie.Need-returns Inv-loop μ-loop
 returns c =
     let a = c .before .before .before .before .before .before .args in
     let v = c .before .before .before .before .loop in
-    let e = sym (c .before .before .link-row .ensures) ∙ c .enum-told .given .1 in
-    unless-false _ 5 (links-false (now (a .p)) (a .k) (a .n) (v .l) (omega arith) (row-bad (now (a .p)) (v .l) (v .sum) (v .inv .2) e))
+    let e = sym (ap rowRead (c .enum-told .given .1)) ∙ c .before .before .link-row .ensures in
+    let w = row-bad (now (a .p)) (v .l) (v .sum) (v .inv .2) e in
+    unless-false _ 5 (links-false (now (a .p)) (a .k) (a .n) (v .l) (omega arith) w)
 
 -- what the row that was read tells: it is right, and its count is as the sheet has it, and below 2^16
 told : (c : tie.After-known-told Inv-loop μ-loop) →
@@ -41,7 +43,8 @@ told c =
     let a = c .before .before .before .before .before .before .before .args in
     let v = c .before .before .before .before .before .loop in
     let known = c .before .before .before .before .before .before .shared-slice-known .given in
-    let r = row-link (now (a .p)) (v .l) (v .sum) _ _ (v .inv .2) (sym (c .before .before .before .link-row .ensures) ∙ c .before .first .given .1) in
+    let e = sym (ap rowRead (c .before .first .given .1)) ∙ c .before .before .before .link-row .ensures in
+    let r = row-link (now (a .p)) (v .l) (v .sum) _ _ (v .inv .2) e in
     (r .0, r .1, omega (arith, known (4 * v .l + 2), known (4 * v .l + 2 + 1)))
 
 add-sum : tie.Need-add-sum Inv-loop μ-loop
@@ -62,13 +65,16 @@ returns-2 : tie.Need-returns-2 Inv-loop μ-loop
 returns-2 c =
     let a = c .before .before .before .before .args in
     let v = c .before .before .loop in
-    unless-true _ 5 (links-are (now (a .p)) (a .k) (a .n) (v .l) (v .sum) true (omega arith) (v .inv .1) (v .inv .2) (eq-eqb _ _ (c .if1 .taken)))
+    let e = eq-eqb _ _ (c .if1 .taken) in
+    unless-true _ 5 (links-are (now (a .p)) (a .k) (a .n) (v .l) (v .sum) true (omega arith) (v .inv .1) (v .inv .2) e)
 
 returns-3 : tie.Need-returns-3 Inv-loop μ-loop
 returns-3 c =
     let a = c .before .before .before .before .args in
     let v = c .before .before .loop in
-    unless-false _ 5 (links-are (now (a .p)) (a .k) (a .n) (v .l) (v .sum) false (omega arith) (v .inv .1) (v .inv .2) (ne-eqb _ _ (c .if1 .left)))
+    let e = ne-eqb _ _ (c .if1 .left) in
+    unless-false _ 5
+    (links-are (now (a .p)) (a .k) (a .n) (v .l) (v .sum) false (omega arith) (v .inv .1) (v .inv .2) e)
 
 pub links-spec : {M : Type 1} → statement M
 links-spec =

@@ -10,13 +10,18 @@ use Rattle.sheet.proofs.pair_rows.pairs.Statement.{statement}
 use Rattle.sheet.proofs.pair_rows.pairs.Tie as tie
 
 abbrev Inv-loop : tie.InvT-loop
-Inv-loop ls rs p k q t j₀ j = (j ≤ q) × (all j (rulePairsOk ls rs p) ≡ true)
+Inv-loop ls rs p q j₀ j = (j ≤ q) × (all j (rulePairsOk ls rs p) ≡ true)
 
 abbrev μ-loop : tie.MeasureT-loop
-μ-loop ls rs p k q t j₀ j = q - j
+μ-loop ls rs p q j₀ j = q - j
 
 loop-holds : tie.Need-loop-holds Inv-loop μ-loop
 loop-holds c = search (needs, all-none)
+
+rule-pairs-requires : tie.Need-rule-pairs-requires Inv-loop μ-loop
+rule-pairs-requires c κs =
+    let s = c .before .before .before .before .before in
+    record { q = s .args .q; among = c .loop-test .taken; read = s .pre }
 
 returns : tie.Need-returns Inv-loop μ-loop
 unfolding pairsOk
@@ -36,7 +41,7 @@ pairs-spec =
     Inv-loop
     μ-loop
     loop-holds
-    (λ c κs. search needs)
+    rule-pairs-requires
     returns
     (λ c. search needs)
     (λ c. search needs)

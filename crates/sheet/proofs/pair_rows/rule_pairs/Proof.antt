@@ -14,8 +14,13 @@ unfolding rulePairsOk
 returns c = rw (← c .before .listed .ensures .0, c .if1 .taken, all-none)
 
 -- what the accepted rule section says of the row
-row-in : (c : tie.Else1) → let a = c .before .before .before .before .before .args in RuleIn (now (a .rs)) (a .k) (a .t) (a .j)
-row-in c = let a = c .before .before .before .before .before .args in rule-in (now (a .rs)) (a .k) (a .q) (a .t) (a .j) (c .before .before .before .before .before .pre .6) (c .before .before .before .before .before .pre .0)
+row-in : (c : tie.Else1) →
+    let s = c .before .before .before .before .before in
+    RuleIn (now (s .args .rs)) (s .pre .read .k) (s .pre .read .t) (s .args .j)
+row-in c =
+    let s = c .before .before .before .before .before in
+    let r = s .pre .read in
+    rule-in (now (s .args .rs)) (r .k) (s .pre .q) (r .t) (s .args .j) (r .rules) (s .pre .among)
 
 link-count-requires : tie.Need-link-count-requires
 link-count-requires c κs = let f = row-in (c .before .before .before) in omega arith

@@ -8,7 +8,10 @@ use Rattle.sheet.proofs.rule_rows.listed.Tie as tie
 
 returns : tie.Need-returns
 unfolding listedBy
-returns c = (rw (← c .before .before .rule-kind .ensures .0, c .before .if1 .taken) (c .rule-count .ensures .0), c .rule-count .ensures .1)
+returns c = (
+  rw (← c .before .before .rule-kind .ensures .0, c .before .if1 .taken) (c .rule-count .ensures .0),
+  c .rule-count .ensures .1,
+)
 
 returns-2 : tie.Need-returns-2
 unfolding listedBy

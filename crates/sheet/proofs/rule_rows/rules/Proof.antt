@@ -13,7 +13,8 @@ use Rattle.sheet.proofs.rule_rows.rules.Statement.{statement}
 use Rattle.sheet.proofs.rule_rows.rules.Tie as tie
 
 abbrev Inv-loop : tie.InvT-loop
-Inv-loop p k q t sum₀ j₀ sum j = (j ≤ q) × (all j (ruleOk p k) ≡ true) × (sum ≡ sumTo j (listedBy p)) × (sum ≤ 65535 * j)
+Inv-loop p k q t sum₀ j₀ sum j =
+    (j ≤ q) × (all j (ruleOk p k) ≡ true) × (sum ≡ sumTo j (listedBy p)) × (sum ≤ 65535 * j)
 
 abbrev μ-loop : tie.MeasureT-loop
 μ-loop p k q t sum₀ j₀ sum j = q - j

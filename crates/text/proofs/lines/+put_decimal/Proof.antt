@@ -1,11 +1,10 @@
 -- `text::lines::put_decimal` meets its contract: the number falls at each call.
 use borrow.Author.Needs.{needs}
-use denote.Ref.{now}
 use Prim.Native.Nat.{ℕ, _+_, _/_, _%_, _<_}
-use mathlib.Core.Path.{_≡_, sym, ap}
-use mathlib.Core.List.{List, [], _∷_, _++_}
+use mathlib.Core.Path.{sym, ap}
+use mathlib.Core.List.{[], _∷_}
 use lib.ListN.{length, length-append}
-use Rattle.planner.specs.Text.{decimal}
+use Rattle.text.specs.Lines.{decimal}
 use native.Mathlib.Omega.{arith}
 use borrow.Fn.Kinds.{In}
 use borrow.Fn.PlainCycle.{Measures, is, falls, and}
@@ -65,7 +64,8 @@ returns-2 t c =
     let q = c .before .before in
     let p = q .before .before .before .before in
     let i = p .before .before in
-    put-same (sym (decimal-more (i .before .before .args .n) (i .if1 .left) (omega arith))) (put-then (p .put-decimal .ensures) (q .put-byte2 .ensures))
+    let e = sym (decimal-more (i .before .before .args .n) (i .if1 .left) (omega arith)) in
+    put-same e (put-then (p .put-decimal .ensures) (q .put-byte2 .ensures))
 
 pub +put-decimal-spec : {M : Type 1} → statement M
 +put-decimal-spec = close μ-put-decimal λ t. lts.spec (C t) (put-decimal-at t) put-decimal.Post

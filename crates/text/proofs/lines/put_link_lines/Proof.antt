@@ -1,10 +1,9 @@
 -- `text::lines::put_link_lines` meets its contract: the lines of the first l links are put.
 use borrow.Author.Needs.{needs}
-use denote.Ref.{now}
 use Prim.Native.Nat.{_≤_, _-_}
 use native.Mathlib.Omega.{arith}
 use Rattle.text.specs.Written.{PutLines}
-use Rattle.text.proofs.Pieces.{lines-none, lines-more, lines-done}
+use Rattle.text.proofs.Links.{lines-none, lines-more, lines-done}
 use Rattle.text.proofs.lines.put_link_lines.Statement.{statement}
 use Rattle.text.proofs.lines.put_link_lines.Tie as tie
 
@@ -20,7 +19,8 @@ put-link-line-requires c κs = let p = c .before .before .before .loop .inv .1 i
 loop-again : tie.Need-loop-again Inv-loop μ-loop
 loop-again c =
     let p = c .before .before in
-    (omega arith, lines-more (p .before .before .before .before .loop .inv .1) (p .put-link-line .ensures .0) (p .put-link-line .ensures .1))
+    let l = p .before .before .before .before .loop .inv .1 in
+    (omega arith, lines-more l (p .put-link-line .ensures .0) (p .put-link-line .ensures .1))
 
 returns : tie.Need-returns Inv-loop μ-loop
 returns c = lines-done (omega arith) (c .before .loop .inv .1)

@@ -1,6 +1,5 @@
 -- `text::lines::put_word` meets its contract: the first i bytes are those of the word.
 use borrow.Author.Needs.{needs}
-use denote.Ref.{now}
 use Prim.Native.Nat.{_≤_, _-_}
 use mathlib.Core.Path.{_≡_}
 use native.Mathlib.Omega.{arith}
@@ -10,7 +9,8 @@ use Rattle.text.proofs.lines.put_word.Statement.{statement}
 use Rattle.text.proofs.lines.put_word.Tie as tie
 
 abbrev Inv-loop : tie.InvT-loop
-Inv-loop text₀ word i₀ text i = (i ≤ length word) × (length text ≡ length text₀) × (take i text ≡ take i word) × (drop i text ≡ drop i text₀)
+Inv-loop text₀ word i₀ text i =
+    (i ≤ length word) × (length text ≡ length text₀) × (take i text ≡ take i word) × (drop i text ≡ drop i text₀)
 
 abbrev μ-loop : tie.MeasureT-loop
 μ-loop text₀ word i₀ text i = length word - i
@@ -24,7 +24,9 @@ loop-again c = (
 )
 
 returns : tie.Need-returns Inv-loop μ-loop
-returns c = word-done _ _ _ (c .before .loop .i) (omega arith) (omega arith) (c .before .loop .inv .2) (c .before .loop .inv .3)
+returns c =
+    let l = c .before .loop in
+    word-done _ _ _ (l .i) (omega arith) (omega arith) (l .inv .2) (l .inv .3)
 
 pub put-word-spec : {M : Type 1} → statement M
 put-word-spec =

@@ -1,4 +1,4 @@
--- `trial::small::small_sheets` is safe and ends: i counts up to sheets.
+-- `trial::small::small_sheets` is safe and ends: i counts up to m.
 use borrow.Author.Needs.{needs}
 use mathlib.Core.Path.{_≡_}
 use Prim.Native.Nat.{_≤_, _-_}
@@ -7,10 +7,10 @@ use Rattle.trial.proofs.small.small_sheets.Statement.{statement}
 use Rattle.trial.proofs.small.small_sheets.Tie as tie
 
 abbrev Inv-loop : tie.InvT-loop
-Inv-loop sheets tally₀ seed₀ i₀ tally seed i = (i ≤ sheets) × (length tally ≡ length tally₀)
+Inv-loop job₀ m i₀ job i = (i ≤ m) × (length job ≡ length job₀)
 
 abbrev μ-loop : tie.MeasureT-loop
-μ-loop sheets tally₀ seed₀ i₀ tally seed i = sheets - i
+μ-loop job₀ m i₀ job i = m - i
 
 pub small-sheets-spec : {M : Type 1} → statement M
 small-sheets-spec =
@@ -18,6 +18,7 @@ small-sheets-spec =
     (tie.spec
     Inv-loop
     μ-loop
+    (λ c κs. search needs)
     (λ c. search needs)
     (λ c κs. search needs)
     (λ c. search needs)

@@ -1,0 +1,210 @@
+-- Demands 1 and 3 of the definitions: every sentence, for all eight filter numbers, all three choices, every accepted
+-- list and every limit.
+use mathlib.Core.Path.{_≡_, refl, sym, ap, subst, _∙_}
+use mathlib.Core.Bool.{cond}
+use mathlib.Core.List.{List}
+use Prim.Native.Nat.{ℕ, _≤_, _<_, min}
+use native.Mathlib.Omega.{arith}
+use lib.Dec.{ltb}
+use borrow.Author.Tests.{lt-ltb}
+use Rattle.sets.specs.Sets.{Set, whole}
+use Rattle.sets.proofs.Lists.{getD-tabulate}
+use Rattle.sheet_rows.specs.Rows.{freq}
+use Rattle.sheet.specs.Sheet.{kOf, nOf, freqPart}
+use Rattle.sheet.specs.Refusal.{refusal}
+use Rattle.sheet.proofs.Accepted.{accepted}
+use Rattle.rules.specs.Job.{Job}
+use Rattle.rules.specs.Plans.{cellsOf}
+use Rattle.cliques.specs.Graph.{Graph, Clique, KClique, Layers}
+use Rattle.cliques.specs.Listing.{byLayer}
+use Rattle.cliques.proofs.Listing.{clique-any, by-layer-clique, by-layer-at, by-layer-back, by-layer-same, by-layer-hit}
+use Rattle.filters.specs.Switches.{Adds}
+use Rattle.graph.specs.Graph.{layer, graphOf}
+use Rattle.graph.specs.Matches.{KeepsEveryRule, IsClique, assignment, vertices, Matches}
+use Rattle.graph.proofs.Graph.{layers-of}
+use Rattle.graph.proofs.Matches.{vertices-clique, vertices-same, keeps-first-k, matches}
+use Rattle.partition.specs.Partition.{classOf}
+use Rattle.search.specs.Tree.{Tree, found, noPlan, nodes}
+use Rattle.search.specs.Order.{UpTo, same, earlier}
+use Rattle.search.specs.Limit.{Answer, plan, none, stopped, answer}
+use Rattle.search.proofs.Order.{upto-same}
+use Rattle.search.proofs.Tree.{All, Le}
+use Rattle.search.proofs.First.{First}
+use Rattle.search.proofs.Limit.{Follows, answer-follows}
+use Rattle.search.proofs.Setting.{tree-le, tree-good, tree-first}
+use Rattle.cells.specs.Cells.{cellOf, planCells}
+use Rattle.setting.specs.Setting.{Setting}
+use Rattle.work_words.specs.Classes.{classesOf, graphIn}
+use Rattle.work_words.proofs.Classes.{classes-layers}
+use Rattle.planner.specs.Outcome.{Outcome, treeOf, outcomeOf, outcome}
+use Rattle.planner.proofs.Accepted.{Call, call-accepted, choice-small}
+use Rattle.planner.proofs.Outcomes.{outcome-refused, outcome-accepted}
+use Rattle.demands.specs.Demands.{byClass, Later, Other, Answered, Added, withFilter, Demand1, Demand3}
+use Rattle.demands.proofs.Answers.{answer-case, le-nodes}
+
+module _ (job : Job) (x : Setting) (m w : ℕ) (C : Call job x m w) where
+  abbrev s : List ℕ
+  s = job .sheet
+
+  abbrev G : Graph
+  G = graphIn job x
+
+  abbrev cls : ℕ → ℕ
+  cls = classOf (classesOf job x)
+
+  abbrev L : Set
+  L = whole (nOf (job .sheet))
+
+  ok : refusal (job .sheet) ≡ 0
+  ok = C .sheet
+
+  law : Layers (graphIn job x) (layer job)
+  law = layers-of job ok cls
+
+  law′ : Layers (graphOf job (layer job)) (classOf (classesOf job x))
+  law′ = classes-layers (accepted s ok) x (choice-small x (C .setting)) (C .list)
+
+  -- a k-clique of the job's graph in these classes
+  any-class : (c : ℕ → ℕ) → Clique (graphIn job x) 0 L c → IsClique job c
+  any-class c p = let q = clique-any G L c p in record { lt = q .lt; live = q .live; joined = q .joined }
+
+  -- a rule-keeping assignment, listed by class, is a clique
+  by-class : (f : ℕ → ℕ) → KeepsEveryRule job f → Clique (graphIn job x) 0 L (byClass job x f)
+  by-class f K = by-layer-clique (graphOf job (layer job)) cls law′ L (vertices job f)
+      (clique-any (graphOf job (layer job)) L (vertices job f) (vertices-clique job ok f K))
+
+  -- the cells of a plan are its assignment
+  cells-are : (c : ℕ → ℕ) (l : ℕ) → l < kOf (job .sheet) → cellsOf (planCells job c m) l ≡ assignment job c l
+  unfolding planCells cellOf
+  cells-are c l h = let k = C .cells in
+      getD-tabulate m _ l 0 (omega arith) ∙ ap (λ b. cond b (assignment job c l) 0) (lt-ltb l (kOf s) h)
+
+  module _ (c : ℕ → ℕ) (p : Clique (graphIn job x) 0 L c) where
+    by-link : Clique (graphOf job (layer job)) 0 L (byLayer (kOf s) (layer job) c)
+    by-link = by-layer-clique G (layer job) law L c (clique-any G L c p)
+
+    plan-keeps : KeepsEveryRule job (cellsOf (planCells job c m))
+    plan-keeps = keeps-first-k job ok (assignment job c) (cellsOf (planCells job c m)) (λ l h. sym (cells-are c l h))
+        (matches job ok .there c (any-class c p))
+
+    -- the plan's own cells, listed by class, are the plan
+    plan-listed : (j : ℕ) → j < kOf s → byClass job x (cellsOf (planCells job c m)) j ≡ c j
+    plan-listed j h =
+        by-layer-same (kOf s) cls (vertices job (cellsOf (planCells job c m))) (byLayer (kOf s) (layer job) c) j
+        (λ l i. ap (λ y. vertices job (λ _. y) l) (cells-are c l i)
+        ∙ vertices-same job ok (byLayer (kOf s) (layer job) c) by-link l i)
+        (by-layer-hit (graphOf job (layer job)) cls law′ L (byLayer (kOf s) (layer job) c)
+        (clique-any (graphOf job (layer job)) L (byLayer (kOf s) (layer job) c) by-link) j h)
+        ∙ by-layer-back G (layer job) law law′ L c p j h
+
+    -- an assignment that is listed as the plan is takes the plan's frequencies
+    listed-same : (f : ℕ → ℕ) → KeepsEveryRule job f → ((j : ℕ) → j < kOf s → byClass job x f j ≡ c j)
+        → (l : ℕ) → l < kOf s → cellsOf (planCells job c m) l ≡ f l
+    listed-same f K e l h =
+        let g = graphOf job (layer job) in
+        let v = vertices-clique job ok f K in
+        let a = clique-any g L (vertices job f) v in
+        let back : byLayer (kOf s) (layer job) (byClass job x f) l ≡ vertices job f l =
+        by-layer-back g cls law′ law L (vertices job f) v l h in
+        let here : byLayer (kOf s) (layer job) (vertices job f) l ≡ vertices job f l =
+        subst (λ i. byLayer (kOf s) (layer job) (vertices job f) i ≡ vertices job f l) (v .at l (omega arith) h .cl)
+        (by-layer-at g (layer job) (layers-of job ok (layer job)) L (vertices job f) a l h) in
+        cells-are c l h
+        ∙ ap (freq (freqPart s)) (sym (by-layer-same (kOf s) (layer job) (byClass job x f) c l e
+        (by-layer-hit G (layer job) law L c (clique-any G L c p) l h)) ∙ back ∙ sym here)
+        ∙ matches job ok .back-there f K l h
+
+    -- every other one is later
+    plan-first : ((e : ℕ → ℕ) → Clique (graphIn job x) 0 L e → UpTo (kOf s) 0 c e) → (f : ℕ → ℕ) → KeepsEveryRule job f
+        → Other job (cellsOf (planCells job c m)) f → Later job x (cellsOf (planCells job c m)) f
+    plan-first first f K o = go (upto-same (λ j a b. plan-listed j b) (first (byClass job x f) (by-class f K)))
+      where
+        go : UpTo (kOf s) 0 (byClass job x (cellsOf (planCells job c m))) (byClass job x f)
+            → Later job x (cellsOf (planCells job c m)) f
+        go (earlier e) = e
+        go (same e) = absurd (o .2 (listed-same f K (λ j h. sym (e j (omega arith) h) ∙ plan-listed j h) (o .0) (o .1)))
+
+  -- what the tree says of its plan
+  good : (t : Tree) → treeOf job x ≡ t → All (Clique (graphIn job x) 0 L) t
+  unfolding treeOf
+  good t e = subst (All (Clique G 0 L)) e (tree-good G (layer job) law (x .filter) L)
+
+  first : (t : Tree) → treeOf job x ≡ t → First (graphIn job x) 0 L t
+  unfolding treeOf
+  first t e = subst (First G 0 L) e (tree-first G (layer job) law (x .filter) L)
+
+  answered : Answered job x (outcomeOf job m (answer (x .limit) (treeOf job x)))
+  answered = answer-case (λ a. Answered job x (outcomeOf job m a)) (x .limit) (treeOf job x)
+      (λ c t e l. let q = ap nodes e in record {
+        stops = λ h. absurd (omega arith);
+        stopped = λ h. absurd (omega arith);
+        number = omega arith;
+        no-plan = λ h. absurd (omega arith);
+        none-exists = λ h n. absurd (h (cellsOf (planCells job c m)) (plan-keeps c (good (found c t) e)));
+        else-found = λ a b. refl;
+        keeps = λ h. plan-keeps c (good (found c t) e);
+        first = λ h. plan-first c (good (found c t) e) (first (found c t) e);
+      })
+      (λ t e l. let q = ap nodes e in record {
+        stops = λ h. absurd (omega arith);
+        stopped = λ h. absurd (omega arith);
+        number = omega arith;
+        no-plan = λ h f K. first (noPlan t) e (byClass job x f) (by-class f K);
+        none-exists = λ h n. refl;
+        else-found = λ a b. absurd (a refl);
+        keeps = λ h. absurd (omega arith);
+        first = λ h. absurd (omega arith);
+      })
+      (λ l. record {
+        stops = λ h. refl;
+        stopped = λ h. l;
+        number = omega arith;
+        no-plan = λ h. absurd (omega arith);
+        none-exists = λ h n. absurd (n refl);
+        else-found = λ a b. absurd (b refl);
+        keeps = λ h. absurd (omega arith);
+        first = λ h. absurd (omega arith);
+      })
+
+  -- with filters added the tree has the same plan in no more nodes
+  trees-le : (filter : ℕ) → Adds filter (x .filter) → Le (treeOf job (withFilter x filter)) (treeOf job x)
+  unfolding treeOf classesOf
+  trees-le filter a = tree-le G (layer job) law filter (x .filter) a L
+
+same-told : (job : Job) (m : ℕ) (a′ a : Answer) → Follows a′ a → (outcomeOf job m a .answer ≡ 102 → ⊥)
+    → (outcomeOf job m a′ .answer ≡ outcomeOf job m a .answer) × (outcomeOf job m a′ .cells ≡ outcomeOf job m a .cells)
+same-told job m (plan e t) (plan c u) f n = (refl, ap (λ p. planCells job p m) (f .0))
+same-told job m (plan e t) (none u) f n = absurd f
+same-told job m (plan e t) (stopped u) f n = absurd (n refl)
+same-told job m (none t) (plan c u) f n = absurd f
+same-told job m (none t) (none u) f n = (refl, refl)
+same-told job m (none t) (stopped u) f n = absurd (n refl)
+same-told job m (stopped t) (plan c u) f n = absurd f
+same-told job m (stopped t) (none u) f n = absurd f
+same-told job m (stopped t) (stopped u) f n = absurd (n refl)
+
+pub demand3 : Demand3
+demand3 = record {
+  answered = λ job x m w e.
+      subst (Answered job x) (sym (outcome-accepted job x m w e)) (answered job x m w (call-accepted job x m w e));
+  added = λ job x filter m w a e′ e.
+      let le = trees-le job x m w (call-accepted job x m w e) filter a in
+      rw (outcome-accepted job x m w e, outcome-accepted job (withFilter x filter) m w e′)
+      (record {
+        smaller = le-nodes (treeOf job (withFilter x filter)) (treeOf job x) le;
+        same = same-told job m (answer (x .limit) (treeOf job (withFilter x filter))) (answer (x .limit) (treeOf job x))
+            (answer-follows (x .limit) (treeOf job (withFilter x filter)) (treeOf job x) le);
+      });
+}
+
+told-between : (job : Job) (m : ℕ) (a : Answer)
+    → (100 ≤ outcomeOf job m a .answer) × (outcomeOf job m a .answer ≤ 102)
+told-between job m (plan c t) = (omega arith, omega arith)
+told-between job m (none t) = (omega arith, omega arith)
+told-between job m (stopped t) = (omega arith, omega arith)
+
+pub demand1 : Demand1
+demand1 = record {
+  refused = outcome-refused;
+  accepted = λ job x m w e. rw (outcome-accepted job x m w e) (told-between job m (answer (x .limit) (treeOf job x)));
+}

@@ -1,0 +1,292 @@
+// The rows of the input. Each says whether all was as wanted.
+use crate::beside::beside;
+use crate::calls::ACCEPTED;
+use crate::calls::ANY;
+use crate::calls::checks;
+use crate::calls::plans;
+use crate::calls::plans_in;
+use crate::input::SKIP;
+use crate::input::next;
+use crate::input::next_run;
+use trial_job::either;
+use trial_job::encode;
+use trial_job::fill;
+use trial_job::first_bytes;
+use trial_job::get;
+use trial_job::kept::CELLS;
+use trial_job::kept::CHOICE;
+use trial_job::kept::FILTER;
+use trial_job::kept::LIMIT;
+use trial_job::kept::LIST;
+use trial_job::kept::LISTED;
+use trial_job::kept::NUMBER;
+use trial_job::kept::PLAN;
+use trial_job::kept::WANTED;
+use trial_job::plus;
+use trial_job::put;
+use trial_job::put_byte;
+use trial_job::put_cell;
+use trial_job::put_half;
+use trial_job::put_word;
+
+// The words that begin a row on a sheet, by their first bytes.
+const ALTER: usize = 97;
+
+const BESIDE: usize = 98;
+
+const CHECK: usize = 99;
+
+const FIRST: usize = 102;
+
+const ONES: usize = 111;
+
+const PLANS: usize = 112;
+
+const WITHIN: usize = 119;
+
+// The caller's list as bytes.
+fn put_list(kept: &[usize], list: &mut [u8]) {
+    let mut i = 0;
+    while i < list.len() {
+        put_byte(list, i, get(kept, plus(LIST, i)));
+        i += 1;
+    }
+}
+
+// The same number in the first m cells of the plan wanted.
+fn want_same(kept: &mut [usize], m: usize, x: usize) {
+    let mut i = 0;
+    while i < m {
+        put(kept, plus(PLAN, i), x);
+        i += 1;
+    }
+}
+
+// One filter number of a row `plan`.
+fn plan_under(kept: &mut [usize], sheet: &[u8], list: &[u8], filter: usize) -> bool {
+    let nodes = next(kept);
+    if nodes == SKIP {
+        return true;
+    }
+    put(kept, FILTER, filter);
+    put(kept, WANTED, nodes);
+    plans(kept, sheet, list)
+}
+
+fn plan_filters(kept: &mut [usize], sheet: &[u8], list: &[u8]) -> bool {
+    let mut filter = 0;
+    while filter < 8 {
+        if !plan_under(kept, sheet, list, filter) {
+            return false;
+        }
+        filter += 1;
+    }
+    true
+}
+
+// `plan`: choice, limit, the number of the answer, four plan cells, and the nodes under each filter number.
+fn plan_row(kept: &mut [usize], sheet: &[u8], list: &[u8]) -> bool {
+    want_same(kept, 72, 0);
+    next_run(kept, CHOICE, 3);
+    next_run(kept, PLAN, 4);
+    plan_filters(kept, sheet, list)
+}
+
+// The refusal wanted, or 0 where the call is to be accepted.
+fn want_refusal(kept: &mut [usize], number: usize) {
+    put(kept, NUMBER, number);
+    put(kept, WANTED, either(number == ACCEPTED, ANY, 0));
+}
+
+fn plans_within(
+    kept: &mut [usize],
+    sheet: &[u8],
+    list: &[u8],
+    cells: &mut [u32],
+    work: &mut [u64],
+) -> bool {
+    let c = next(kept);
+    let w = next(kept);
+    if cells.len() < c {
+        return false;
+    }
+    if work.len() < w {
+        return false;
+    }
+    plans_in(kept, sheet, list, &mut cells[0..c], &mut work[0..w])
+}
+
+// `within`: filter, choice, limit, the refusal, or 0 where the call is accepted, and the cells and words lent.
+fn within_row(kept: &mut [usize], sheet: &[u8], list: &[u8]) -> bool {
+    let mut cells = [7u32; 72];
+    let mut work = [7u64; 8192];
+    next_run(kept, FILTER, 3);
+    let number = next(kept);
+    want_refusal(kept, number);
+    plans_within(kept, sheet, list, &mut cells, &mut work)
+}
+
+// The first m cells of the plan wanted.
+fn plan_cells(kept: &[usize], cells: &mut [u32], m: usize) {
+    let mut i = 0;
+    while i < m {
+        put_cell(cells, i, get(kept, plus(PLAN, i)));
+        i += 1;
+    }
+}
+
+fn checks_first(kept: &mut [usize], sheet: &[u8], cells: &[u32], m: usize, number: usize) -> bool {
+    if cells.len() < m {
+        return false;
+    }
+    checks(kept, sheet, &cells[0..m], number)
+}
+
+// `check`: how many cells, the cells, and the number of the answer.
+fn check_row(kept: &mut [usize], sheet: &[u8]) -> bool {
+    let mut cells = [0u32; 72];
+    let m = next(kept);
+    next_run(kept, PLAN, m);
+    plan_cells(kept, &mut cells, m);
+    let number = next(kept);
+    checks_first(kept, sheet, &cells, m, number)
+}
+
+// A sheet under a setting that is refused, or accepted.
+fn refuses_under(
+    kept: &mut [usize],
+    sheet: &[u8],
+    filter: usize,
+    choice: usize,
+    limit: usize,
+    number: usize,
+) -> bool {
+    put(kept, FILTER, filter);
+    put(kept, CHOICE, choice);
+    put(kept, LIMIT, limit);
+    want_refusal(kept, number);
+    plans(kept, sheet, b"")
+}
+
+// A sheet that is refused, or accepted, by planning and by the check. With a setting out of range, which is tested
+// after the sheet, too.
+fn refuses(kept: &mut [usize], sheet: &[u8], number: usize) -> bool {
+    let zeros = [0u32; 72];
+    if !refuses_under(kept, sheet, 0, 0, 1000000, number) {
+        return false;
+    }
+    if !refuses_under(kept, sheet, 8, 3, 0, either(number == ACCEPTED, 9, number)) {
+        return false;
+    }
+    checks(kept, sheet, &zeros, number)
+}
+
+// `first`: bytes lent of the sheet, and the refusal, or 0.
+fn first_row(kept: &mut [usize], sheet: &[u8]) -> bool {
+    let m = next(kept);
+    let number = next(kept);
+    refuses(kept, first_bytes(sheet, m), number)
+}
+
+fn alter(kept: &mut [usize], sheet: &mut [u8]) {
+    let width = next(kept);
+    let at = next(kept);
+    let x = next(kept);
+    if width == 2 {
+        put_half(sheet, at, x);
+        return;
+    }
+    if width == 4 {
+        put_word(sheet, at, x);
+    }
+}
+
+// `alter`: two fields of 2 or 4 bytes, 0 for none, each with its place and its number, then the refusal, or 0.
+fn alter_row(kept: &mut [usize], sheet: &mut [u8], length: usize) -> bool {
+    alter(kept, sheet);
+    alter(kept, sheet);
+    let number = next(kept);
+    refuses(kept, first_bytes(sheet, length), number)
+}
+
+fn ones_filters(kept: &mut [usize], sheet: &[u8]) -> bool {
+    let mut filter = 0;
+    while filter < 8 {
+        put(kept, FILTER, filter);
+        if !plans(kept, sheet, b"") {
+            return false;
+        }
+        filter += 1;
+    }
+    true
+}
+
+// `ones`: the number of the answer, its nodes under every filter number, and how many links take 1, the others none;
+// then the check of that.
+fn ones_row(kept: &mut [usize], sheet: &[u8]) -> bool {
+    put(kept, CHOICE, 0);
+    put(kept, LIMIT, 1000000);
+    next_run(kept, NUMBER, 2);
+    let m = next(kept);
+    want_same(kept, 72, 0);
+    want_same(kept, m, 1);
+    if !ones_filters(kept, sheet) {
+        return false;
+    }
+    checks_plan(kept, sheet)
+}
+
+// The check of the plan wanted.
+fn checks_plan(kept: &mut [usize], sheet: &[u8]) -> bool {
+    let mut cells = [0u32; 72];
+    plan_cells(kept, &mut cells, 72);
+    let number = get(kept, NUMBER);
+    checks(kept, sheet, &cells, number)
+}
+
+// `beside`: the sheet and the list beside the brute-force solver.
+fn beside_row(kept: &mut [usize], sheet: &[u8], list: &[u8]) -> bool {
+    let mut graph = [0usize; CELLS];
+    fill(kept, &mut graph);
+    beside(kept, &graph, sheet, list)
+}
+
+// A row with the sheet and the list.
+fn called_row(kept: &mut [usize], word: usize, sheet: &[u8], list: &[u8]) -> bool {
+    if word == PLANS {
+        return plan_row(kept, sheet, list);
+    }
+    if word == WITHIN {
+        return within_row(kept, sheet, list);
+    }
+    if word == CHECK {
+        return check_row(kept, sheet);
+    }
+    if word == ONES {
+        return ones_row(kept, sheet);
+    }
+    if word == BESIDE {
+        return beside_row(kept, sheet, list);
+    }
+    false
+}
+
+fn listed_row(kept: &mut [usize], word: usize, sheet: &[u8]) -> bool {
+    let mut list = [0u8; 600];
+    put_list(kept, &mut list);
+    let m = get(kept, LISTED);
+    called_row(kept, word, sheet, first_bytes(&list, m))
+}
+
+// A row on the job's sheet.
+pub fn row_on_sheet(kept: &mut [usize], word: usize) -> bool {
+    let mut sheet = [0u8; 60000];
+    let length = encode(kept, &mut sheet);
+    if word == ALTER {
+        return alter_row(kept, &mut sheet, length);
+    }
+    if word == FIRST {
+        return first_row(kept, &sheet);
+    }
+    listed_row(kept, word, first_bytes(&sheet, length))
+}

@@ -1,0 +1,134 @@
+// A small job's graph, read off its rules: the layer of each of 32 vertices, and after these a row of 32 for each, 1
+// where two are adjacent.
+ghost use mathlib.Core.Path.{_≡_};
+ghost use lib.ListN.{length};
+use crate::job::count;
+use crate::job::first;
+use crate::job::khz;
+use crate::job::rule_at;
+use crate::kept::K;
+use crate::kept::N;
+use crate::kept::PAIRS;
+use crate::kept::Q;
+use crate::parts::distance;
+use crate::parts::either;
+use crate::parts::get;
+use crate::parts::less;
+use crate::parts::plus;
+use crate::parts::put;
+use crate::parts::times;
+
+pub fn layer(graph: &[usize], v: usize) -> usize {
+    get(graph, v)
+}
+
+// 1 for adjacent, else 0.
+pub fn edge(graph: &[usize], u: usize, v: usize) -> usize {
+    get(graph, plus(plus(32, times(32, u)), v))
+}
+
+fn link_of(job: &[usize], v: usize) -> usize {
+    let k = get(job, K);
+    let mut l = 0;
+    while l < k {
+        if v < plus(first(job, l), count(job, l)) {
+            return l;
+        }
+        l += 1;
+    }
+    k
+}
+
+// The place of the row of the rule of links a and b, 0 where there is none.
+fn rule_of(job: &[usize], a: usize, b: usize) -> usize {
+    let q = get(job, Q);
+    let mut j = 0;
+    while j < q {
+        let at = rule_at(j);
+        if get(job, at) == a {
+            if get(job, plus(at, 1)) == b {
+                return at;
+            }
+        }
+        j += 1;
+    }
+    0
+}
+
+// Whether the m pairs from pair `from` on have one of places i and j.
+fn is_listed(job: &[usize], from: usize, m: usize, i: usize, j: usize) -> bool {
+    let mut p = 0;
+    while p < m {
+        let pair = plus(from, p);
+        let at = plus(PAIRS, plus(pair, pair));
+        if get(job, at) == i {
+            if get(job, plus(at, 1)) == j {
+                return true;
+            }
+        }
+        p += 1;
+    }
+    false
+}
+
+// Whether the rule of the links a < b of two vertices, if any, allows them.
+fn allows(job: &[usize], a: usize, b: usize, u: usize, v: usize) -> bool {
+    let at = rule_of(job, a, b);
+    if at == 0 {
+        return true;
+    }
+    let kind = get(job, plus(at, 2));
+    let value = get(job, plus(at, 4));
+    let apart = distance(khz(job, u), khz(job, v));
+    if kind == 1 {
+        return value <= apart;
+    }
+    if kind == 2 {
+        return value == apart;
+    }
+    is_listed(
+        job,
+        value,
+        get(job, plus(at, 3)),
+        less(u, first(job, a)),
+        less(v, first(job, b)),
+    )
+}
+
+// Whether two vertices are adjacent.
+fn adjacent(job: &[usize], u: usize, v: usize) -> bool {
+    let a = link_of(job, u);
+    let b = link_of(job, v);
+    if a < b {
+        return allows(job, a, b, u, v);
+    }
+    if b < a {
+        return allows(job, b, a, v, u);
+    }
+    false
+}
+
+// Vertex u's layer, and whether it is adjacent to v.
+fn fill_cell(job: &[usize], graph: &mut [usize], u: usize, v: usize) {
+    let n = get(job, N);
+    if n <= u {
+        return;
+    }
+    if n <= v {
+        return;
+    }
+    put(graph, u, link_of(job, u));
+    let x = either(adjacent(job, u, v), 1, 0);
+    put(graph, plus(plus(32, times(32, u)), v), x);
+}
+
+// The graph, over a table that is zero.
+pub fn fill(job: &[usize], graph: &mut [usize])
+    ensures { λ _. ⌜ length (now (graph .exit)) ≡ length (now (graph .entry)) ⌝ }
+{
+    let mut p = 0;
+    while p < 1024 {
+        fill_cell(job, graph, p / 32, p % 32);
+        p += 1;
+    }
+}

@@ -1,0 +1,83 @@
+// Jobs at the limits: each link has the frequencies 1, 2, ..; the rules are those of the first pairs of links, all of
+// kind 3, and each lists the first pairs of places. So the first plan takes 1 throughout, in k + 1 nodes.
+ghost use mathlib.Core.Path.{_≡_};
+ghost use lib.ListN.{length};
+use crate::job::put_link;
+use crate::job::put_pair;
+use crate::job::put_rule;
+use crate::kept::FREQUENCIES;
+use crate::kept::K;
+use crate::kept::N;
+use crate::kept::Q;
+use crate::kept::T;
+use crate::parts::either;
+use crate::parts::get;
+use crate::parts::plus;
+use crate::parts::put;
+
+// Part i of a total in equal parts, the first ones one larger where it does not come out even.
+fn share(total: usize, parts: usize, i: usize) -> usize {
+    if parts == 0 {
+        return 0;
+    }
+    plus(total / parts, either(i < total % parts, 1, 0))
+}
+
+fn put_frequencies(job: &mut [usize], start: usize, m: usize) {
+    let mut i = 0;
+    while i < m {
+        put(job, plus(FREQUENCIES, plus(start, i)), plus(i, 1));
+        i += 1;
+    }
+}
+
+fn put_links(job: &mut [usize], k: usize, n: usize) {
+    let mut start = 0;
+    let mut l = 0;
+    while l < k {
+        let m = share(n, k, l);
+        put_link(job, l, start, m);
+        put_frequencies(job, start, m);
+        start = plus(start, m);
+        l += 1;
+    }
+}
+
+// The first m pairs of places in dictionary order, as pairs `from` on.
+fn put_pairs(job: &mut [usize], from: usize, m: usize, width: usize) {
+    if width == 0 {
+        return;
+    }
+    let mut p = 0;
+    while p < m {
+        put_pair(job, plus(from, p), p / width, p % width);
+        p += 1;
+    }
+}
+
+fn put_rules(job: &mut [usize], k: usize, q: usize, t: usize, width: usize) {
+    let mut a = 0;
+    let mut b = 1;
+    let mut from = 0;
+    let mut j = 0;
+    while j < q {
+        let m = share(t, q, j);
+        put_rule(job, j, a, b, 3, m, from);
+        put_pairs(job, from, m, width);
+        from = plus(from, m);
+        let goes_on = plus(b, 1) < k;
+        b = either(goes_on, plus(b, 1), plus(a, 2));
+        a = either(goes_on, a, plus(a, 1));
+        j += 1;
+    }
+}
+
+// The job of the counts that are kept.
+pub fn make_even(job: &mut [usize])
+    ensures { λ _. ⌜ length (now (job .exit)) ≡ length (now (job .entry)) ⌝ }
+{
+    let k = get(job, K);
+    let n = get(job, N);
+    put_links(job, k, n);
+    put_rules(job, k, get(job, Q), get(job, T), share(n, k, k));
+}

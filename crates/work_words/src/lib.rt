@@ -1,0 +1,139 @@
+// The work words of a job: where its rows lie, and how they are filled before the search, with the rows of the graph,
+// the masks of the layers and of the classes, and the root row. The contract of `fill_words` cites `Filled` of
+// specs/Filled.antt.
+mod places;
+
+ghost use mathlib.Core.Path.{_≡_};
+ghost use Prim.Native.Nat.{_+_, _*_, _<_, _≤_};
+ghost use lib.ListN.{length};
+ghost use Rattle.sets.specs.Sets.{whole};
+ghost use Rattle.rows.specs.Rows.{Put};
+ghost use Rattle.rules.specs.Job.{jobOf};
+ghost use Rattle.partition.specs.Choice.{classList};
+ghost use Rattle.partition.specs.Words.{Masks, BuilderRoom};
+ghost use Rattle.setting.specs.Setting.{settingOf};
+ghost use Rattle.work_words.specs.Filled.{Placed, RowsPut, ListChecked, ListBuilt, Filled};
+use cliques::Place;
+use graph::build_rows;
+use partition::build_classes;
+use partition::class_list;
+use partition::is_partition;
+use partition::put_layers;
+use partition::put_masks;
+pub use places::lay_out;
+use setting::Options;
+use sheet::freqs_at;
+use sheet::pairs_at;
+use sheet::rules_at;
+use sheet::rules_of;
+
+// A row is w words.
+pub struct Layout {
+    pub w: usize,
+    pub masks: usize,
+    pub layers: usize,
+    pub graph: usize,
+}
+
+// The rows of the graph, the list of the layers and their masks. Each section is the part of the sheet that begins at
+// its offset.
+fn put_rows(sheet: &[u8], place: Place, layers: usize, built: &mut [u8], work: &mut [u64])
+    requires { ⌜ Placed (now sheet) place layers (length (now work)) (length (now built)) ⌝ }
+    ensures { λ _. ⌜ RowsPut (jobOf (now (sheet .entry))) place layers (now (work .exit)) (now (built .exit)) ⌝ }
+{
+    let ls = &sheet[40..];
+    let freqs = freqs_at(sheet);
+    let rules = rules_at(sheet);
+    let pairs = pairs_at(sheet);
+    build_rows(
+        work,
+        place,
+        ls,
+        &sheet[freqs..],
+        &sheet[rules..],
+        &sheet[pairs..],
+        rules_of(sheet),
+    );
+    put_layers(ls, place.n, place.k, built);
+    put_masks(work, place, layers, built);
+}
+
+// Whether the caller's list may be used: it is looked at for choice 2 only.
+fn check_list(choice: u32, classes: &[u8], place: Place, work: &mut [u64]) -> bool
+    requires { ⌜ (place .masks + place .k * place .w ≤ place .graph)
+        × (place .graph + place .n * place .w ≤ length (now work)) × (place .n ≤ 64 * place .w) ⌝ }
+    ensures { λ r. ⌜ ListChecked choice place (now (classes .entry)) (now (work .entry)) (now (work .exit)) r ⌝ }
+{
+    if choice != 2 {
+        return true;
+    }
+    is_partition(work, place, classes)
+}
+
+// The classes of choice 1, where the layers stand.
+fn build_list(choice: u32, place: Place, built: &mut [u8], work: &mut [u64])
+    requires { ⌜ BuilderRoom place (length (now work)) × (length (now built) ≡ place .n) × (place .k < 256) ⌝ }
+    ensures { λ _. ⌜ ListBuilt choice place (now (work .entry)) (now (work .exit)) (now (built .entry))
+        (now (built .exit)) ⌝ }
+{
+    if choice != 1 {
+        return;
+    }
+    build_classes(work, place, built);
+}
+
+// The masks of the class list, which is part of either the caller's list or the built one.
+fn put_class_masks<'a>(
+    choice: u32,
+    classes: &'a [u8],
+    built: &'a [u8],
+    place: Place,
+    work: &mut [u64],
+)
+    requires { ⌜ ((choice ≡ 2 → place .n ≤ length (now classes)) × (place .n ≤ length (now built))
+        × (place .masks + place .k * place .w ≤ length (now work)) × (place .n ≤ 64 * place .w)) ⌝ }
+    ensures { λ _. ⌜ Masks (place .n) (place .k)
+        (classList choice (now (classes .entry)) (now (built .entry)) (place .n))
+        (place .w) (place .masks) (now (work .entry)) (now (work .exit)) ⌝ }
+{
+    let list = class_list(choice, classes, built, place.n);
+    put_masks(work, place, place.masks, list);
+}
+
+// The root row: every vertex.
+fn put_root(work: &mut [u64], w: usize, n: usize)
+    requires { ⌜ (w ≤ length (now work)) × (n ≤ 64 * w) ⌝ }
+    ensures { λ _. ⌜ Put (whole n) w 0 (now (work .entry)) (now (work .exit)) ⌝ }
+{
+    rows::clear(work, w, 0);
+    let mut v = 0;
+    while v < n {
+        rows::insert(work, w, 0, v);
+        v += 1;
+    }
+}
+
+// Fills the words, and says whether the caller's list is none or a partition.
+pub fn fill_words(
+    sheet: &[u8],
+    options: Options,
+    classes: &[u8],
+    place: Place,
+    layers: usize,
+    built: &mut [u8],
+    work: &mut [u64],
+) -> bool
+    requires { ⌜ Placed (now sheet) place layers (length (now work)) (length (now built)) × (options .choice ≤ 2) ⌝ }
+    ensures { λ r. ⌜ Filled (jobOf (now (sheet .entry))) (settingOf options (now (classes .entry))) place layers
+        (now (work .exit)) r ⌝ }
+{
+    let choice = options.choice;
+    put_rows(sheet, place, layers, built, work);
+    if !check_list(choice, classes, place, work) {
+        return false;
+    }
+    build_list(choice, place, built, work);
+    put_class_masks(choice, classes, built, place, work);
+    put_root(work, place.w, place.n);
+    true
+}

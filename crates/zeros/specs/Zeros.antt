@@ -1,0 +1,7 @@
+-- So many zeros.
+use mathlib.Core.List.{List}
+use Prim.Native.Nat.{ℕ}
+use lib.ListN.{replicate}
+
+unfoldable pub zeros : ℕ → List ℕ
+zeros m = replicate m 0
