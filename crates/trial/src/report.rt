@@ -15,11 +15,3 @@ pub fn item(words: &[u8], n: usize) {
     text(words);
     number(n);
 }
-
-// A line of a text and three numbers.
-pub fn line(words: &[u8], a: usize, b: usize, c: usize) {
-    item(words, a);
-    number(b);
-    number(c);
-    text(b"\n");
-}

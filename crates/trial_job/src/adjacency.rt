@@ -2,21 +2,21 @@
 // where two are adjacent.
 ghost use mathlib.Core.Path.{_≡_};
 ghost use lib.ListN.{length};
-use crate::job::count;
-use crate::job::first;
-use crate::job::khz;
-use crate::job::rule_at;
-use crate::kept::K;
-use crate::kept::N;
-use crate::kept::PAIRS;
-use crate::kept::Q;
-use crate::parts::distance;
-use crate::parts::either;
-use crate::parts::get;
-use crate::parts::less;
-use crate::parts::plus;
-use crate::parts::put;
-use crate::parts::times;
+use trial_parts::count;
+use trial_parts::distance;
+use trial_parts::either;
+use trial_parts::first;
+use trial_parts::get;
+use trial_parts::kept::K;
+use trial_parts::kept::N;
+use trial_parts::kept::PAIRS;
+use trial_parts::kept::Q;
+use trial_parts::khz;
+use trial_parts::less;
+use trial_parts::plus;
+use trial_parts::put;
+use trial_parts::rule_at;
+use trial_parts::times;
 
 pub fn layer(graph: &[usize], v: usize) -> usize {
     get(graph, v)

@@ -4,22 +4,22 @@ ghost use Prim.Native.Nat.{_+_, _≤_};
 ghost use lib.ListN.{getD, length};
 use crate::classes::has_neighbour_in;
 use crate::classes::put_layers;
-use crate::job::count;
-use crate::job::put_link;
-use crate::job::put_pair;
-use crate::job::put_rule;
-use crate::kept::FREQUENCIES;
-use crate::kept::K;
-use crate::kept::N;
-use crate::kept::Q;
-use crate::kept::SEED;
-use crate::kept::T;
-use crate::parts::after;
-use crate::parts::get;
-use crate::parts::less;
-use crate::parts::plus;
-use crate::parts::put;
-use crate::parts::put_byte;
+use trial_parts::after;
+use trial_parts::count;
+use trial_parts::get;
+use trial_parts::kept::FREQUENCIES;
+use trial_parts::kept::K;
+use trial_parts::kept::N;
+use trial_parts::kept::Q;
+use trial_parts::kept::SEED;
+use trial_parts::kept::T;
+use trial_parts::less;
+use trial_parts::plus;
+use trial_parts::put;
+use trial_parts::put_byte;
+use trial_parts::put_link;
+use trial_parts::put_pair;
+use trial_parts::put_rule;
 
 // The next number of the sequence, below m.
 fn draw(kept: &mut [usize], m: usize) -> usize {

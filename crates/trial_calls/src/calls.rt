@@ -1,0 +1,185 @@
+// Calls of the planner and of the check beside what is wanted of them. A difference is printed.
+ghost use mathlib.Core.Path.{_≡_};
+ghost use Prim.Native.Nat.{_+_, _%_, _^_};
+ghost use lib.Dec.{eqb};
+ghost use lib.ListN.{getD, length, set};
+ghost use Rattle.rules.specs.Job.{jobOf};
+ghost use Rattle.rules.specs.Plans.{checked};
+use crate::report::line;
+use setting::Options;
+use trial_parts::either;
+use trial_parts::get;
+use trial_parts::get_cell;
+use trial_parts::kept::CALLS;
+use trial_parts::kept::CHECKS;
+use trial_parts::kept::CHOICE;
+use trial_parts::kept::FILTER;
+use trial_parts::kept::LIMIT;
+use trial_parts::kept::NODES;
+use trial_parts::kept::NUMBER;
+use trial_parts::kept::PLAN;
+use trial_parts::kept::WANTED;
+use trial_parts::narrow;
+use trial_parts::plus;
+use trial_parts::put;
+
+// Any number of nodes; and the number wanted of a call that is to be accepted, whatever its answer.
+pub const ANY: usize = 4294967296;
+
+pub const ACCEPTED: usize = 0;
+
+pub fn more(kept: &mut [usize], what: usize)
+    ensures { λ _. ⌜ now (kept .exit) ≡
+        set (now (kept .entry)) what ((getD (now (kept .entry)) what 0 + 1) % 2 ^ 64) ⌝ }
+{
+    let n = get(kept, what);
+    put(kept, what, plus(n, 1));
+}
+
+// The limit of the next planning call, and the number and the nodes wanted of it.
+pub fn want(kept: &mut [usize], limit: usize, number: usize, nodes: usize) {
+    put(kept, LIMIT, limit);
+    put(kept, NUMBER, number);
+    put(kept, WANTED, nodes);
+}
+
+// The number of a planning call's answer; its nodes are kept.
+fn ask(
+    kept: &mut [usize],
+    sheet: &[u8],
+    callers: &[u8],
+    cells: &mut [u32],
+    work: &mut [u64],
+) -> usize {
+    let options = Options {
+        filter: narrow(get(kept, FILTER)),
+        choice: narrow(get(kept, CHOICE)),
+        limit: narrow(get(kept, LIMIT)),
+    };
+    let p = planner::plan(sheet, options, callers, cells, work);
+    put(kept, NODES, p.nodes as usize);
+    let verdict = p.verdict;
+    planner::verdict_number(verdict) as usize
+}
+
+fn all_zero(work: &[u64]) -> bool {
+    let mut i = 0;
+    while i < work.len() {
+        if work[i] != 0 {
+            return false;
+        }
+        i += 1;
+    }
+    true
+}
+
+// Whether the cells are those of the plan wanted where one is found, and zeros else.
+fn holds_plan(kept: &[usize], cells: &[u32], found: bool) -> bool {
+    let mut i = 0;
+    while i < cells.len() {
+        if get_cell(cells, i) != either(found, get(kept, plus(PLAN, i)), 0) {
+            return false;
+        }
+        i += 1;
+    }
+    true
+}
+
+fn are_wanted(kept: &[usize], nodes: usize) -> bool {
+    if get(kept, WANTED) == ANY {
+        return true;
+    }
+    get(kept, WANTED) == nodes
+}
+
+// Whether an answer and the cells are as wanted.
+fn is_as_wanted(kept: &[usize], number: usize, cells: &[u32]) -> bool {
+    if get(kept, NUMBER) == ACCEPTED {
+        return 100 <= number;
+    }
+    if get(kept, NUMBER) != number {
+        return false;
+    }
+    if !are_wanted(kept, get(kept, NODES)) {
+        return false;
+    }
+    holds_plan(kept, cells, number == 100)
+}
+
+fn print_difference(kept: &[usize], number: usize, cells: &[u32]) {
+    line(
+        b"difference under filter, choice, limit",
+        get(kept, FILTER),
+        get(kept, CHOICE),
+        get(kept, LIMIT),
+    );
+    line(
+        b"wanted number, nodes, first cell",
+        get(kept, NUMBER),
+        get(kept, WANTED),
+        get(kept, PLAN),
+    );
+    line(b"got", number, get(kept, NODES), get_cell(cells, 0));
+}
+
+// The number of the plan check's answer.
+fn check_of(sheet: &[u8], cells: &[u32]) -> usize
+    ensures { λ r. ⌜ r ≡ checked (jobOf (now (sheet .entry))) (now (cells .entry)) ⌝ }
+{
+    rules::check_number(planner::check(sheet, cells)) as usize
+}
+
+// Whether the plan check gives the number wanted.
+pub fn checks(kept: &mut [usize], sheet: &[u8], cells: &[u32], number: usize) -> bool
+    ensures { λ r. ⌜
+        (now (kept .exit) ≡ set (now (kept .entry)) 2 ((getD (now (kept .entry)) 2 0 + 1) % 2 ^ 64)) ×
+        (r ≡ eqb (checked (jobOf (now (sheet .entry))) (now (cells .entry))) number) ⌝ }
+{
+    more(kept, CHECKS);
+    let got = check_of(sheet, cells);
+    if got == number {
+        return true;
+    }
+    line(
+        b"difference: check, wanted, first cell",
+        got,
+        number,
+        get_cell(cells, 0),
+    );
+    false
+}
+
+// Whether a planning call in these cells and words gives the number and the nodes wanted, the plan where it is found,
+// zeros in all other cells, and zero work words; and the check says yes to a plan that is found.
+pub fn plans_in(
+    kept: &mut [usize],
+    sheet: &[u8],
+    callers: &[u8],
+    cells: &mut [u32],
+    work: &mut [u64],
+) -> bool
+    ensures { λ _. ⌜ length (now (kept .exit)) ≡ length (now (kept .entry)) ⌝ }
+{
+    more(kept, CALLS);
+    let number = ask(kept, sheet, callers, cells, work);
+    if !is_as_wanted(kept, number, cells) {
+        print_difference(kept, number, cells);
+        return false;
+    }
+    if !all_zero(work) {
+        return false;
+    }
+    if number != 100 {
+        return true;
+    }
+    checks(kept, sheet, cells, 100)
+}
+
+// The same in cells and words of its own, which are not zero before.
+pub fn plans(kept: &mut [usize], sheet: &[u8], callers: &[u8]) -> bool
+    ensures { λ _. ⌜ length (now (kept .exit)) ≡ length (now (kept .entry)) ⌝ }
+{
+    let mut cells = [7u32; 72];
+    let mut work = [7u64; 8192];
+    plans_in(kept, sheet, callers, &mut cells, &mut work)
+}
