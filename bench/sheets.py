@@ -3,7 +3,7 @@
 import random
 from dataclasses import dataclass
 
-from jobsheet.binary import EXACT, LISTED, SPACING, Rule, Sheet
+from jobsheet.binary import EXACT, LISTED, MOST_KHZ, SPACING, Rule, Sheet
 
 RASTER = 25  # kHz
 
@@ -77,3 +77,27 @@ def samples(quick=False):
                   for seed in range(1, 1 + min(most, 2))]
     found += [Sample("no plan", f"{links} links, {links - 1} frequencies", crowded(links, links - 1)) for links in ((8,) if quick else (8, 9))]
     return found
+
+
+def apart(seed, links=64, frequencies=8):
+    """Random lists in which no two links share a frequency."""
+    rng = random.Random(seed)
+    slots = rng.sample(range(4000), links * frequencies)
+    return [sorted(600_000 + RASTER * slot for slot in slots[frequencies * link:frequencies * (link + 1)]) for link in range(links)]
+
+
+def drawn(seed, lists, most):
+    """So many of the links' pairs, drawn at random and rising."""
+    every = [(a, b) for a in range(len(lists)) for b in range(a + 1, len(lists))]
+    return sorted(random.Random(seed).sample(every, most))
+
+
+def text_samples():
+    """The sheets whose texts bench/run writes and reads: every edge of 64 × 8, some links' pairs listed, most links joined by none."""
+    lists = apart(1)
+    every = [(p, q) for p in range(8) for q in range(8)]
+    rng = random.Random(2)
+    listed = [Rule(a, b, LISTED, 0, sorted(rng.sample(every, 50))) for a, b in drawn(3, lists, 160)]
+    far = [Rule(a, b, SPACING, MOST_KHZ) for a, b in drawn(4, lists, 1800)]
+    return [Sample("64 × 8", "no rule", Sheet(lists, [])), Sample("64 × 8", "8,000 listed pairs in 160 rules", Sheet(lists, listed)),
+            Sample("64 × 8", "1,800 of 2,016 pairs of links joined by none", Sheet(lists, far))]

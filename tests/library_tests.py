@@ -1,4 +1,4 @@
-"""Tests of the console library: the header against the archive, the C example, the two functions against the reading of the scope."""
+"""Tests of the libraries: the headers against the archives, the C example, the console's two functions against the reading of the scope."""
 
 import random
 import re
@@ -9,32 +9,36 @@ import reading
 import samples
 from harness import EXAMPLES, PROGRAM, example_sheets, need, printed_by_program, test
 from jobsheet import binary
-from native import ARCHIVE, ROOT, SANITIZE, WARNINGS, run
+from native import ARCHIVE, DESK_ARCHIVE, ROOT, SANITIZE, WARNINGS, run
+
+HEADERS = {"guvtemi.h": (ARCHIVE, {"guvtemi_plan", "guvtemi_check"}), "guvtemi_desk.h": (DESK_ARCHIVE, {"guvtemi_export", "guvtemi_import"})}
 
 
-# ---- The library and the header
+# ---- The libraries and the headers
 
-@test("the archive and the program are there")
+@test("the archives and the program are there")
 def _(_):
-    for path, made_by in ((ARCHIVE, "rt staticlib console"), (PROGRAM, "rt check plan")):
+    for path, made_by in ((ARCHIVE, "rt staticlib console"), (DESK_ARCHIVE, "rt staticlib desk"), (PROGRAM, "rt check plan")):
         need(path.exists(), f"{path.relative_to(ROOT)} is missing: '{made_by}' writes it")
 
 
-@test("header: compiles alone as C99, C11 and C++17")
+@test("headers: each and both compile alone as C99, C11 and C++17")
 def _(_):
     for compiler, kind, standard in (("gcc", "c", "c99"), ("gcc", "c", "c11"), ("g++", "c++", "c++17")):
-        done = run([compiler, f"-std={standard}", *WARNINGS, "-fsyntax-only", "-x", kind, ROOT / "include" / "guvtemi.h"])
-        complaints = [line for line in done.stderr.decode().splitlines() if "pragma once" not in line]
-        need(done.returncode == 0, f"{standard}: {complaints[:2]}")
+        for names in (["guvtemi.h"], ["guvtemi_desk.h"], list(HEADERS)):
+            lines = "".join(f'#include "{name}"\n' for name in names)
+            done = run([compiler, f"-std={standard}", *WARNINGS, "-fsyntax-only", "-I", ROOT / "include", "-x", kind, "-"], input=lines.encode())
+            need(done.returncode == 0, f"{standard}, {names}: {done.stderr.decode().splitlines()[:2]}")
 
 
-@test("header against archive: the same functions")
+@test("headers against archives: the same functions")
 def _(_):
-    header = (ROOT / "include" / "guvtemi.h").read_text(encoding="utf-8")
-    declared = set(re.findall(r"^uint64_t (guvtemi_\w+)\(", header, re.MULTILINE))
-    symbols = run(["nm", "-g", "--defined-only", ARCHIVE]).stdout.decode()
-    defined = set(re.findall(r" T (guvtemi_\w+)$", symbols, re.MULTILINE))
-    need(declared == defined == {"guvtemi_plan", "guvtemi_check"}, f"declared {sorted(declared)}, defined {sorted(defined)}")
+    for name, (archive, wanted) in HEADERS.items():
+        header = (ROOT / "include" / name).read_text(encoding="utf-8")
+        declared = set(re.findall(r"^uint64_t (guvtemi_\w+)\(", header, re.MULTILINE))
+        symbols = run(["nm", "-g", "--defined-only", archive]).stdout.decode()
+        defined = set(re.findall(r" T (guvtemi_\w+)$", symbols, re.MULTILINE))
+        need(declared == defined == wanted, f"{name}: declared {sorted(declared)}, defined {sorted(defined)}")
 
 
 @test("C example: the program's answer to every example")

@@ -1,20 +1,25 @@
 """Tests of the tools that people use: text to sheet and back, refusals explained, tables, pictures, wrong inputs."""
 
+import os
 import random
 import re
 import shutil
+import sys
 import tempfile
 import xml.dom.minidom
 from collections import Counter
 from pathlib import Path
 
+import desk_samples
 import native
 import reading
 import samples
 from harness import EXAMPLES, SHEET, example_answers, example_sheets, need, printed_by_program, test
-from jobsheet import binary, picture, show, text
+from jobsheet import binary, desk, picture, show, text
 from jobsheet.answer import Answer, width
-from native import ROOT, run
+from native import DESK_ARCHIVE, ROOT, run
+
+COMMANDS = ("make", "show", "why", "plan", "picture", "dimacs", "from-dimacs")
 
 
 @test("examples/README.md says what the planner answers")
@@ -81,7 +86,7 @@ def _(_):
 @test("every command has --help")
 def _(_):
     commands = [[SHEET, "--help"], [ROOT / "bench" / "run", "--help"], [ROOT / "tests" / "outside", "--help"], ["sh", EXAMPLES / "build", "--help"]]
-    commands += [[SHEET, name, "--help"] for name in ("make", "show", "why", "plan", "picture")] + [["sh", ROOT / "guvtemi", "--help"]]
+    commands += [[SHEET, name, "--help"] for name in COMMANDS] + [["sh", ROOT / "guvtemi", "--help"]]
     for command in commands:
         done = run(command)
         need(done.returncode == 0 and len(done.stdout) > 60, f"{command}: status {done.returncode}")
@@ -142,14 +147,121 @@ def _(_):
             files[name].write_bytes(data)
         (Path(folder) / "deep").mkdir()
         inputs = [*files.values(), Path(folder) / "missing", Path(folder), Path(folder) / "x\0y"]
-        cases = [[name, path] for name in ("make", "show", "why", "plan", "picture") for path in inputs if "\0" not in str(path)]
-        cases += [[], ["unknown"], ["make"], ["make", files["text"], "-o", Path(folder) / "deep"], ["picture", files["text"], "-o", Path(folder) / "no" / "where"]]
+        cases = [[name, path] for name in COMMANDS[:6] for path in inputs if "\0" not in str(path)]
+        cases += [["from-dimacs", *two] for path in inputs[:-1] for two in ((path, files["text"]), (files["text"], path), (path,), ("-", "-"))]
+        cases += [[], ["unknown"], ["make"], ["make", files["text"], "-o", Path(folder) / "deep"], ["picture", files["text"], "-o", Path(folder) / "no" / "where"],
+                  ["dimacs", files["text"], "-o", Path(folder) / "no" / "where"], ["dimacs", files["text"], "-o", "-"], ["dimacs", "-"]]
         for case in cases:
-            done = run([SHEET, *case], cwd=folder)
+            done = run([SHEET, *case], cwd=folder, input=b"")
             said = (done.stdout + done.stderr).decode(errors="replace")
             need("Traceback" not in said and said.strip(), f"{case}: {said[-300:]}")
-            good = case[:1] in (["make"], ["plan"], ["picture"]) and case[1:] == [files["text"]]
+            good = case[:1] in (["make"], ["plan"], ["picture"], ["dimacs"]) and case[1:] == [files["text"]]
             need((done.returncode == 0) == good, f"{case}: status {done.returncode}")
+
+
+@test("tools/sheet dimacs and from-dimacs on every example")
+def _(_):
+    with tempfile.TemporaryDirectory() as folder:
+        name, refused = Path(folder) / "a graph", 0
+        graph, parts, back = (Path(f"{name}.{ending}") for ending in ("col", "parts", "sheet"))
+        for sheet in example_sheets():
+            data, source = sheet.read_bytes(), sheet.with_suffix(".txt")
+            accepted = reading.refusal(data) == 0
+            for job in [sheet] + [source] * (accepted and source.exists()):
+                done = run([SHEET, "dimacs", job, "-o", name])
+                need(done.returncode == (0 if accepted else 1), f"dimacs {job.name}: {done.stderr.decode()[:200]}")
+                if not accepted:
+                    said = done.stderr.decode()
+                    need(f"is refused {reading.refusal(data)}:" in said and not done.stdout, f"dimacs {job.name}: {said[:80]!r}")
+                    continue
+                texts = graph.read_bytes(), parts.read_bytes()
+                need(texts == reading.texts_of(reading.Sheet(data)), f"dimacs {job.name}: other texts")
+                back.unlink(missing_ok=True)
+                done = run([SHEET, "from-dimacs", graph, parts])
+                cause, wanted = reading.import_cause(*texts, desk.ENOUGH_SHEET_BYTES)
+                need(done.returncode == (1 if cause else 0), f"from-dimacs {job.name}: {done.stderr.decode()[:200]}")
+                if cause:
+                    refused += 1
+                    need(f"refused {cause}: " in done.stderr.decode() and not back.exists(), f"from-dimacs {job.name}: {done.stderr[:80]!r}")
+                    continue
+                need(back.read_bytes() == wanted, f"from-dimacs {job.name}: another sheet")
+                first, second = (printed_by_program(one).splitlines()[0] for one in (data, wanted))
+                need(first == second, f"{job.name}: {first}, then {second}")
+        need(refused, "no example gave more than 8,192 pairs")
+
+
+@test("tools/sheet dimacs and from-dimacs: standard input, and what is not written over")
+def _(_):
+    with tempfile.TemporaryDirectory() as folder:
+        (Path(folder) / "a.sheet").write_bytes((EXAMPLES / "theatre.sheet").read_bytes())
+        graph, counts = reading.texts_of(reading.Sheet((EXAMPLES / "theatre.sheet").read_bytes()))
+        done = run([SHEET, "dimacs", "-", "-o", "b"], input=(EXAMPLES / "theatre.txt").read_bytes(), cwd=folder)
+        need(done.returncode == 0 and (Path(folder) / "b.col").read_bytes() == graph, f"dimacs -: {done.stderr.decode()[:200]}")
+        wanted = reading.import_cause(graph, counts, desk.ENOUGH_SHEET_BYTES)[1]
+        need(run([SHEET, "from-dimacs", "-", "b.parts"], input=graph, cwd=folder).stdout == wanted, "from-dimacs - PARTS")
+        need(run([SHEET, "from-dimacs", "b.col", "-", "-o", "-"], input=counts, cwd=folder).stdout == wanted, "from-dimacs GRAPH -")
+        done = run([SHEET, "dimacs", "a.sheet"], cwd=folder)
+        need(done.returncode == 0 and (Path(folder) / "a.parts").read_bytes() == counts, "dimacs beside its sheet")
+        for more, status in (([], 2), (["-o", "a.col"], 2), (["-o", "a.sheet"], 0), ([], 0)):
+            done = run([SHEET, "from-dimacs", "a.col", "a.parts", *more], cwd=folder)
+            need(done.returncode == status, f"from-dimacs a.col a.parts {more}: status {done.returncode}")
+        need((Path(folder) / "a.sheet").read_bytes() == wanted and (Path(folder) / "a.col").read_bytes() == graph, "what was written")
+
+
+@test("tools/sheet from-dimacs names a line of every malformed text")
+def _(args):
+    rng = random.Random(args.seed + 7)
+    texts = [(graph, counts) for _, graph, counts in (*desk_samples.malformed_texts(), *desk_samples.bad_edge_texts())]
+    texts += [call.read for _ in range(args.cases) for call in desk_samples.random_calls(rng) if call.function == desk_samples.IMPORT]
+    faults = 0
+    for graph, counts in texts:
+        place = desk.malformed(graph, counts)
+        need((place is not None) == (reading.import_cause(graph, counts, 0)[0] == 13), f"{place}: {graph[:200]}, {counts[:200]}")
+        if place:
+            faults += 1
+            number, line, expected, there = place
+            text_of = (graph, counts)[number]
+            need(expected and text_of.split(b"\n")[line - 1] == there, f"{place}: {text_of[:200]}")
+    with tempfile.TemporaryDirectory() as folder:
+        for graph, counts in texts[::max(len(texts) // 40, 1)]:
+            (Path(folder) / "a.col").write_bytes(graph)
+            (Path(folder) / "a.parts").write_bytes(counts)
+            done = run([SHEET, "from-dimacs", "a.col", "a.parts", "-o", "a.sheet"], cwd=folder)
+            said, cause = done.stderr.decode(errors="replace"), reading.import_cause(graph, counts, desk.ENOUGH_SHEET_BYTES)[0]
+            need(done.returncode == (1 if cause else 0) and "Traceback" not in said and (not cause or f"refused {cause}: " in said), f"{said[-300:]}")
+            need(cause != 13 or re.search(r"a\.(col|parts), line \d+: expected ", said), f"{said[-300:]}")
+    return f"{faults:,} of {len(texts):,} texts malformed"
+
+
+@test("tools/sheet dimacs builds the desk library where it is missing or older")
+def _(_):
+    with tempfile.TemporaryDirectory() as folder:
+        root, rt = Path(folder) / "root", Path(folder) / "bin" / "rt"
+        shutil.copytree(ROOT / "tools", root / "tools", ignore=shutil.ignore_patterns("__pycache__"))
+        rt.parent.mkdir()
+        archive, shared = root / "target" / "staticlib" / "libdesk.a", root / "target" / "desk" / "libdesk.so"
+
+        def told(script=None):
+            """Status and standard error, with a command rt that does this; without a script there is none."""
+            if script:
+                rt.write_text(f'#!/bin/sh\n[ "$*" = "staticlib desk" ] || exit 3\n{script}\n')
+                rt.chmod(0o755)
+            path = f"{rt.parent}:/usr/bin:/bin" if script else "/usr/bin:/bin"
+            command = [root / "tools" / "sheet", "dimacs", EXAMPLES / "theatre.sheet", "-o", Path(folder) / "out"]
+            done = run(["env", f"PATH={path}", sys.executable, *command])
+            return done.returncode, done.stderr.decode()
+
+        if not shutil.which("rt", path="/usr/bin:/bin"):
+            status, said = told()
+            need(status == 2 and "rt staticlib desk" in said, f"without rt: status {status}, {said[:200]}")
+        status, said = told("echo 'rt: desk refused'; exit 1")
+        need(status == 2 and "was not built" in said, f"rt that fails: status {status}, {said[:200]}")
+        status, said = told(f"echo 'rt: desk proved (1 s)'; mkdir -p target/staticlib; cp '{DESK_ARCHIVE}' target/staticlib")
+        need(status == 0 and "proving and building" in said and "tools/sheet: desk proved (1 s)" in said, f"not built: status {status}, {said[:200]}")
+        made = shared.stat().st_mtime_ns
+        need(told("exit 1") == (0, "") and shared.stat().st_mtime_ns == made, "built again without need")
+        os.utime(archive, ns=(made + 10**9, made + 10**9))
+        need(told("exit 1") == (0, "") and shared.stat().st_mtime_ns != made, "an older shared object was kept")
 
 
 @test("make and show are inverse on random sheets")

@@ -14,7 +14,7 @@ use Rattle.graph.specs.Graph.{layer, graphOf}
 use Rattle.setting.specs.Setting.{Setting}
 use Rattle.work_words.specs.Layout.{workWords}
 use Rattle.planner.specs.Outcome.{Outcome, outcome}
-use Rattle.text.specs.Lines.{ascii}
+use Rattle.lines.specs.Lines.{ascii}
 use Rattle.text.specs.Text.{printed}
 use Rattle.cases.specs.Encode.{RuleGiven, encode}
 

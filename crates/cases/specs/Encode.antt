@@ -1,9 +1,10 @@
 -- Job sheets written out, for the sheets with known results. The definitions of the planner do not use it.
 use mathlib.Core.Bool.{cond}
 use mathlib.Core.List.{List, [], _∷_, _++_}
-use Prim.Native.Nat.{ℕ, _+_, _*_, _/_, _%_}
+use Prim.Native.Nat.{ℕ, _+_, _*_}
 use lib.Dec.{eqb}
 use lib.ListN.{length}
+use Rattle.wire.specs.Fields.{bytes16, bytes32}
 
 -- a rule row: links a and b, kind, value, and the pairs of kind 3
 pub record RuleGiven : Type 0 where
@@ -13,13 +14,6 @@ pub record RuleGiven : Type 0 where
   pub value : ℕ
   pub pairs : List (ℕ × ℕ)
 
--- 16 and 32 bits, little-endian
-abbrev pub bytes16 : ℕ → List ℕ
-bytes16 n = (n % 256) ∷ (n / 256) ∷ []
-
-abbrev pub bytes32 : ℕ → List ℕ
-bytes32 n = bytes16 (n % 65536) ++ bytes16 (n / 65536)
-
 abbrev pub total : List (List ℕ) → ℕ
 total [] = 0
 total (l ∷ ls) = length l + total ls
@@ -28,32 +22,32 @@ abbrev pub pairCount : List RuleGiven → ℕ
 pairCount [] = 0
 pairCount (r ∷ rs) = length (r .pairs) + pairCount rs
 
-abbrev pub linkRows : ℕ → List (List ℕ) → List ℕ
-linkRows at [] = []
-linkRows at (l ∷ ls) = bytes16 at ++ bytes16 (length l) ++ linkRows (at + length l) ls
+abbrev pub givenLinks : ℕ → List (List ℕ) → List ℕ
+givenLinks at [] = []
+givenLinks at (l ∷ ls) = bytes16 at ++ bytes16 (length l) ++ givenLinks (at + length l) ls
 
-abbrev pub freqRows : List (List ℕ) → List ℕ
-freqRows [] = []
-freqRows (l ∷ ls) = go l ++ freqRows ls
+abbrev pub givenFreqs : List (List ℕ) → List ℕ
+givenFreqs [] = []
+givenFreqs (l ∷ ls) = go l ++ givenFreqs ls
   where
     go : List ℕ → List ℕ
     go [] = []
     go (x ∷ xs) = bytes32 x ++ go xs
 
 -- kind 3 rows count their pairs and start at the sum of the earlier ones
-abbrev pub ruleRows : ℕ → List RuleGiven → List ℕ
-ruleRows at [] = []
-ruleRows at (r ∷ rs) =
+abbrev pub givenRules : ℕ → List RuleGiven → List ℕ
+givenRules at [] = []
+givenRules at (r ∷ rs) =
     bytes16 (r .a) ++ bytes16 (r .b) ++ bytes16 (r .kind) ++ bytes16 (length (r .pairs)) ++
-    bytes32 (cond (eqb (r .kind) 3) at (r .value)) ++ ruleRows (at + length (r .pairs)) rs
+    bytes32 (cond (eqb (r .kind) 3) at (r .value)) ++ givenRules (at + length (r .pairs)) rs
 
-abbrev pub pairRow : List (ℕ × ℕ) → List ℕ
-pairRow [] = []
-pairRow (p ∷ ps) = bytes16 (p .0) ++ bytes16 (p .1) ++ pairRow ps
+abbrev pub givenPair : List (ℕ × ℕ) → List ℕ
+givenPair [] = []
+givenPair (p ∷ ps) = bytes16 (p .0) ++ bytes16 (p .1) ++ givenPair ps
 
-abbrev pub pairRows : List RuleGiven → List ℕ
-pairRows [] = []
-pairRows (r ∷ rs) = pairRow (r .pairs) ++ pairRows rs
+abbrev pub givenPairs : List RuleGiven → List ℕ
+givenPairs [] = []
+givenPairs (r ∷ rs) = givenPair (r .pairs) ++ givenPairs rs
 
 -- the sheet of lists of frequencies and rule rows
 abbrev pub encode : List (List ℕ) → List RuleGiven → List ℕ
@@ -65,4 +59,4 @@ encode ls rs =
     bytes32 1 ++ bytes32 k ++ bytes32 n ++ bytes32 q ++ bytes32 t ++
     bytes32 40 ++ bytes32 (40 + 4 * k) ++ bytes32 (40 + 4 * k + 4 * n) ++ bytes32 (40 + 4 * k + 4 * n + 12 * q) ++
     bytes32 (40 + 4 * k + 4 * n + 12 * q + 4 * t) ++
-    linkRows 0 ls ++ freqRows ls ++ ruleRows 0 rs ++ pairRows rs
+    givenLinks 0 ls ++ givenFreqs ls ++ givenRules 0 rs ++ givenPairs rs

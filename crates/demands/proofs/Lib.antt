@@ -1,3 +1,4 @@
 pub mod Answers
 pub mod Demands
 pub mod CallDemands
+pub mod SameGraph

@@ -1,5 +1,5 @@
 -- Laws of the adjacency rows: row u under no rule, what one rule more takes from it, and the rows written one after another.
-use mathlib.Core.Path.{_≡_, refl, sym, ap, _∙_, fun-ext}
+use mathlib.Core.Path.{_≡_, refl, sym, ap, subst, _∙_, fun-ext}
 use mathlib.Core.Bool.{Bool, true, false, not, _&&_, _||_}
 use mathlib.Core.List.{List}
 use Prim.Native.Nat.{ℕ, _+_, _-_, _*_, _≤_, _<_}
@@ -16,14 +16,17 @@ use Rattle.sets.proofs.Below.{all-in, all-step}
 use Rattle.sheet_rows.specs.Rows.{linkFirst, linkCount, ruleA, ruleB}
 use Rattle.sheet.proofs.Links.{link-in}
 use Rattle.sheet.proofs.Rules.{rule-after}
+use Rattle.sheet.specs.Sheet.{qOf, linkPart, freqPart, rulePart, pairPart}
+use Rattle.rules.specs.Job.{jobOf}
 use Rattle.rules.specs.Layers.{layerOf, InLink}
 use Rattle.rules.specs.Pairs.{allows, fits, joins}
 use Rattle.rules.specs.Parts.{LinkRows, Parts}
 use Rattle.rules.proofs.Laws.{layer-of, layer-in, in-link-lt, link-test, rule-links}
 use Rattle.rows.specs.Rows.{setAt, rowAt, Begins, Outside, Put}
 use Rattle.rows.proofs.Rows.{row-inside, outside-none, outside-then, outside-wide, above, below}
-use Rattle.graph.specs.Graph.{adjacent, unruled}
-use Rattle.graph.specs.Rows.{RowsFit, Built}
+use Rattle.cliques.specs.declared.Place.{Place}
+use Rattle.graph.specs.Graph.{adjacent, unruled, edge}
+use Rattle.graph.specs.Rows.{RowsFit, RowsAsked, Built}
 use Rattle.graph.specs.Strikes.{stretch, sideOf, barred, Full, Struck}
 use Rattle.graph.proofs.Spans.{stretch-out, stretch-whole}
 use Rattle.graph.proofs.Strikes.{stretch-put}
@@ -334,3 +337,14 @@ started-more {adj} {n} {w} {last} {graph} {u} {p₀} {p} {q} B S h P = record {
     go x l (yes e) = rw e (P .here)
     go x l (no e) = let m : x < u = omega arith in let i = row-inside x u w m in
         below (P .rest) w (graph + x * w) (omega arith) ∙ S .rows x m
+
+-- rows built by the code's parts and counts are those of the job's graph
+pub built-edge : {s : List ℕ} {place : Place} {len : ℕ} → RowsAsked s place len
+    → {ls fs rs ps p p₁ : List ℕ} {q : ℕ}
+    → Built (adjacent ls fs rs ps (place .k) (place .n) q) (place .w) (place .graph) (place .n) p p₁
+    → ls ≡ linkPart s → fs ≡ freqPart s → rs ≡ rulePart s → ps ≡ pairPart s → q ≡ qOf s
+    → Built (edge (jobOf s)) (place .w) (place .graph) (place .n) p p₁
+built-edge {s} {place} P {p = p} {p₁ = p₁} B a b c d e =
+    let f = P .links in
+    let g = P .freqs in
+    subst (λ (adj : ℕ → ℕ → Bool). Built adj (place .w) (place .graph) (place .n) p p₁) (cc) B

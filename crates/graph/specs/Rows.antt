@@ -4,12 +4,22 @@ use mathlib.Core.Bool.{Bool}
 use mathlib.Core.List.{List}
 use Prim.Native.Nat.{ℕ, _+_, _*_, _^_, _≤_, _<_}
 use Rattle.rows.specs.Rows.{rowAt, Outside}
+use Rattle.cliques.specs.declared.Place.{Place}
+use Rattle.sheet.specs.Sheet.{kOf, nOf}
+use Rattle.sheet.specs.Accepted.{Accepted}
 
 -- n rows of w words from `graph` on lie in `len` words
 pub record RowsFit (w graph n len : ℕ) : Type 0 where
   pub wide : n ≤ 64 * w
   pub small : 64 * w < 2 ^ 64
   pub inside : graph + n * w ≤ len
+
+-- the place is that of an accepted sheet, and its rows lie in `len` words
+pub record RowsAsked (s : List ℕ) (place : Place) (len : ℕ) : Type 0 where
+  pub accepted : Accepted s
+  pub freqs : place .n ≡ nOf s
+  pub links : place .k ≡ kOf s
+  pub fit : RowsFit (place .w) (place .graph) (place .n) len
 
 -- "Two vertices are adjacent when ..": row u holds the neighbours of u, and nothing but the rows has changed
 pub record Built (adj : ℕ → ℕ → Bool) (w graph n : ℕ) (p p′ : List ℕ) : Type 0 where

@@ -1,5 +1,5 @@
 // The graph of a sheet, its microstructure: its adjacency rows in the work words.
-// The contracts cite `Built` of specs/Rows.antt; `Sections` of the crate `rules` is what they ask of the four sections.
+// The contracts cite `Built` of specs/Rows.antt, and `build_graph` that the rows are `edge` of specs/Graph.antt.
 mod span;
 mod strike;
 
@@ -8,11 +8,16 @@ ghost use Prim.Native.Nat.{ℕ, _+_, _*_, _<_, _≤_};
 ghost use lib.ListN.{length};
 ghost use Rattle.sets.specs.Sets.{whole};
 ghost use Rattle.rows.specs.Rows.{setAt, rowAt, Put};
+ghost use Rattle.rules.specs.Job.{jobOf};
 ghost use Rattle.rules.specs.Parts.{LinkRows, RuleRow, Sections};
-ghost use Rattle.graph.specs.Graph.{adjacent, unruled};
-ghost use Rattle.graph.specs.Rows.{RowsFit, Built};
+ghost use Rattle.graph.specs.Graph.{adjacent, unruled, edge};
+ghost use Rattle.graph.specs.Rows.{RowsFit, RowsAsked, Built};
 use cliques::Place;
 use rules::layer;
+use sheet::freqs_at;
+use sheet::pairs_at;
+use sheet::rules_at;
+use sheet::rules_of;
 use sheet_rows::link_count;
 use sheet_rows::link_first;
 use sheet_rows::rule_a;
@@ -92,15 +97,7 @@ fn strike_rule(part: &mut [u64], place: Place, ls: &[u8], fs: &[u8], rs: &[u8], 
 }
 
 // The rows of the graph, under q rules.
-pub fn build_rows(
-    part: &mut [u64],
-    place: Place,
-    ls: &[u8],
-    fs: &[u8],
-    rs: &[u8],
-    ps: &[u8],
-    q: usize,
-)
+fn build_rows(part: &mut [u64], place: Place, ls: &[u8], fs: &[u8], rs: &[u8], ps: &[u8], q: usize)
     requires { ⌜ Sections (now ls) (now fs) (now rs) (now ps) (place .k) (place .n) q
         × RowsFit (place .w) (place .graph) (place .n) (length (now part)) ⌝ }
     ensures { λ r. ⌜ Built (adjacent (now (ls .entry)) (now (fs .entry)) (now (rs .entry)) (now (ps .entry))
@@ -112,4 +109,24 @@ pub fn build_rows(
         strike_rule(part, place, ls, fs, rs, ps, j);
         j += 1;
     }
+}
+
+// The rows of the graph of an accepted sheet. Each section is the part of the sheet that begins at its offset.
+pub fn build_graph(part: &mut [u64], place: Place, sheet: &[u8])
+    requires { ⌜ RowsAsked (now sheet) place (length (now part)) ⌝ }
+    ensures { λ r. ⌜ Built (edge (jobOf (now (sheet .entry)))) (place .w) (place .graph) (place .n)
+        (now (part .entry)) (now (part .exit)) ⌝ }
+{
+    let freqs = freqs_at(sheet);
+    let rules = rules_at(sheet);
+    let pairs = pairs_at(sheet);
+    build_rows(
+        part,
+        place,
+        &sheet[40..],
+        &sheet[freqs..],
+        &sheet[rules..],
+        &sheet[pairs..],
+        rules_of(sheet),
+    );
 }

@@ -2,20 +2,18 @@
 use mathlib.Core.Path.{_≡_, sym, ap, _∙_}
 use mathlib.Core.Bool.{cond}
 use mathlib.Core.List.{List, []}
-use Prim.Native.Nat.{ℕ, _^_, _≤_, _<_}
+use Prim.Native.Nat.{ℕ, _≤_, _<_}
 use native.Mathlib.Omega.{arith}
 use lib.ListN.{length}
 use borrow.Author.Tests.{ne-eqb, le-leb, lt-leb}
 use Rattle.planner.specs.Outcome.{Outcome}
-use Rattle.text.specs.Lines.{PutAt, Holds, ascii, line}
-use Rattle.text.specs.Text.{linkLines, foundText, printedOf, printed}
-use Rattle.text.specs.Written.{PutLines, mostBytes, printedIn}
-use Rattle.text.proofs.Pieces.{rest-from}
-use Rattle.text.proofs.Decimals.{line-few}
-
-pub first-few : (n : ℕ) → n < 2 ^ 32 → length (line (ascii "found") n) ≤ 17
-unfolding ascii
-first-few n h = line-few (ascii "found") n h
+use Rattle.output.specs.Output.{Wrote}
+use Rattle.output.proofs.Wrote.{wrote-then}
+use Rattle.lines.specs.Lines.{ascii, line}
+use Rattle.text.specs.Text.{foundText, printedOf, printed}
+use Rattle.text.specs.Written.{Holds, PutLines, mostBytes, printedIn}
+use Rattle.text.proofs.Holding.{wrote-holds, same-holds}
+use Rattle.text.proofs.Links.{lines-after}
 
 module _ (k : ℕ) (o : Outcome) where
   pub printed-found : o .answer ≡ 100 → printedOf k o ≡ foundText k o
@@ -36,14 +34,12 @@ module _ (k : ℕ) (o : Outcome) where
   printed-refused f g h = rw (ne-eqb (o .answer) 100 f, ne-eqb (o .answer) 101 g, ne-eqb (o .answer) 102 h, printedOf)
 
   -- the first line and the links' lines
-  pub found-holds : {before first left : List ℕ} {at r : ℕ} → o .answer ≡ 100 → k ≤ 64 → o .nodes < 2 ^ 32
-      → mostBytes ≤ length before → PutAt (line (ascii "found") (o .nodes)) before 0 first at
+  pub found-holds : {before first left : List ℕ} {at r : ℕ} → o .answer ≡ 100 → k ≤ 64 → at ≤ 17
+      → mostBytes ≤ length before → Wrote (line (ascii "found") (o .nodes)) before 0 first at
       → PutLines k (o .cells) first at left r → Holds (printedOf k o) before left r
-  found-holds {before} {first} {left} {at} {r} e f g h p q = record {
-    within = omega (arith, p .end, p .room, q .end, q .room, first-few (o .nodes) g);
-    same = q .text ∙ ap (λ l. linkLines k (o .cells) l) (p .text) ∙ sym (printed-found e);
-    rest = q .rest ∙ rest-from first before at r (p .rest) (q .begins);
-  }
+  found-holds e f g h p q =
+      same-holds (printed-found e ∙ sym (lines-after k (o .cells) (line (ascii "found") (o .nodes))))
+      (wrote-holds (omega (arith, q .few)) (wrote-then p (q .wrote)))
 
 -- no other text names a link
 pub printed-any : (o : Outcome) (k j : ℕ) → (o .answer ≡ 100 → ⊥) → printedOf k o ≡ printedOf j o

@@ -1,6 +1,5 @@
-pub mod Pieces
-pub mod Decimals
 pub mod Links
+pub mod Holding
 pub mod Answers
 pub mod Found
 pub mod Longer

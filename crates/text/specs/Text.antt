@@ -11,7 +11,7 @@ use Rattle.setting.specs.Setting.{Setting}
 use Rattle.work_words.specs.Layout.{workWords}
 use Rattle.planner.specs.Outcome.{Outcome, outcome}
 -- who computes a text opens these too
-unfoldable pub use Rattle.text.specs.Lines.{ascii, digits, decimal, ending, line}
+unfoldable pub use Rattle.lines.specs.Lines.{ascii, digits, decimal, ending, line}
 
 -- some text, and "a line `link kHz` per link" for the first l cells
 unfoldable pub linkLines : ℕ → List ℕ → List ℕ → List ℕ

@@ -1,6 +1,6 @@
 // The text that the program prints: the answer for a sheet in bytes, one line for the answer and, on found, one for
 // each link. The contract of `put_text` cites `printed` of specs/Text.antt, for every sheet.
-mod lines;
+mod link_lines;
 
 ghost use mathlib.Core.Path.{_≡_};
 ghost use Prim.Native.Nat.{_≤_};
@@ -10,11 +10,10 @@ ghost use Rattle.sheet.specs.Refusal.{refusal};
 ghost use Rattle.rules.specs.Job.{jobOf};
 ghost use Rattle.planner.specs.Outcome.{outcome};
 ghost use Rattle.planner.specs.Planned.{verdictNumber, gave};
-ghost use Rattle.text.specs.Lines.{Holds};
 ghost use Rattle.text.specs.Text.{programSetting, printedOf};
-ghost use Rattle.text.specs.Written.{mostBytes, printedIn};
+ghost use Rattle.text.specs.Written.{Holds, mostBytes, printedIn};
 use lines::put_line;
-use lines::put_link_lines;
+use link_lines::put_link_lines;
 use planner::Planned;
 use planner::plan;
 use planner::verdict_number;
@@ -33,16 +32,16 @@ fn put_answer(p: Planned, sheet: &[u8], cells: &[u32], text: &mut [u8]) -> usize
     let number = verdict_number(verdict);
     if number == 100 {
         let k = links_of(sheet);
-        let at = put_line(text, b"found", nodes);
+        let at = put_line(text, 0, b"found", nodes);
         return put_link_lines(text, at, cells, k);
     }
     if number == 101 {
-        return put_line(text, b"none", nodes);
+        return put_line(text, 0, b"none", nodes);
     }
     if number == 102 {
-        return put_line(text, b"stopped", nodes);
+        return put_line(text, 0, b"stopped", nodes);
     }
-    put_line(text, b"refused", number)
+    put_line(text, 0, b"refused", number)
 }
 
 // Plans a sheet in the cells and words lent, and puts the answer.

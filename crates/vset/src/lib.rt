@@ -8,6 +8,16 @@ ghost use Rattle.sets.specs.Below.{count};
 ghost use Rattle.sets.specs.Sets.{_∩_, _∪_, _∖_, just};
 ghost use Rattle.vset.specs.Words.{has, Least, Emptiness};
 
+// Whether v is in the set.
+pub fn contains(row: &[u64], v: usize) -> bool
+    requires { ⌜ v < 64 * length (now row) ⌝ }
+    ensures { λ r. ⌜ r ≡ has (now (row .entry)) v ⌝ }
+{
+    let i = v / 64;
+    let k = v % 64;
+    (row[i] >> k) % 2 == 1
+}
+
 // Adds v to the set.
 pub fn insert(row: &mut [u64], v: usize)
     requires { ⌜ v < 64 * length (now row) ⌝ }

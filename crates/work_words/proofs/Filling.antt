@@ -15,10 +15,10 @@ use Rattle.rows.specs.Rows.{setAt, rowAt, Outside, Put}
 use Rattle.rows.proofs.Rows.{above}
 use Rattle.cliques.specs.Words.{placed, withMasks, Held, Remains, Node}
 use Rattle.cliques.specs.declared.Place.{Place}
-use Rattle.sheet.specs.Sheet.{kOf, nOf, qOf, linkPart, freqPart, rulePart, pairPart}
+use Rattle.sheet.specs.Sheet.{kOf, nOf}
 use Rattle.sheet.specs.Accepted.{Accepted}
 use Rattle.rules.specs.Job.{Job, jobOf}
-use Rattle.graph.specs.Graph.{adjacent, layer, edge, graphOf}
+use Rattle.graph.specs.Graph.{layer, edge, graphOf}
 use Rattle.graph.specs.Rows.{Built}
 use Rattle.partition.specs.Partition.{classOf, layersOf, built, isPartition, Partition}
 use Rattle.partition.specs.Words.{Rows, members, Masks}
@@ -47,17 +47,6 @@ rows-put {s} {place} P B e M = record {
   masks = λ c l. M .mask c l ∙ ap (λ x. members (place .n) x c) e;
   list = e;
 }
-
--- rows built by the code's parts and counts are those of the job's graph
-pub built-edge : {s : List ℕ} {place : Place} {layers len list : ℕ} → Placed s place layers len list
-    → {ls fs rs ps p p₁ : List ℕ} {q : ℕ}
-    → Built (adjacent ls fs rs ps (place .k) (place .n) q) (place .w) (place .graph) (place .n) p p₁
-    → ls ≡ linkPart s → fs ≡ freqPart s → rs ≡ rulePart s → ps ≡ pairPart s → q ≡ qOf s
-    → Built (edge (jobOf s)) (place .w) (place .graph) (place .n) p p₁
-built-edge {s} {place} P {p = p} {p₁ = p₁} B a b c d e =
-    let f = P .links in
-    let g = P .freqs in
-    subst (λ (adj : ℕ → ℕ → Bool). Built adj (place .w) (place .graph) (place .n) p p₁) (cc) B
 
 -- a place by the numbers of its sheet
 place-is : (place : Place) (n k : ℕ) → place .n ≡ n → place .k ≡ k

@@ -14,7 +14,7 @@ ghost use Rattle.partition.specs.Words.{Masks, BuilderRoom};
 ghost use Rattle.setting.specs.Setting.{settingOf};
 ghost use Rattle.work_words.specs.Filled.{Placed, RowsPut, ListChecked, ListBuilt, Filled};
 use cliques::Place;
-use graph::build_rows;
+use graph::build_graph;
 use partition::build_classes;
 use partition::class_list;
 use partition::is_partition;
@@ -22,10 +22,6 @@ use partition::put_layers;
 use partition::put_masks;
 pub use places::lay_out;
 use setting::Options;
-use sheet::freqs_at;
-use sheet::pairs_at;
-use sheet::rules_at;
-use sheet::rules_of;
 
 // A row is w words.
 pub struct Layout {
@@ -35,26 +31,13 @@ pub struct Layout {
     pub graph: usize,
 }
 
-// The rows of the graph, the list of the layers and their masks. Each section is the part of the sheet that begins at
-// its offset.
+// The rows of the graph, the list of the layers and their masks.
 fn put_rows(sheet: &[u8], place: Place, layers: usize, built: &mut [u8], work: &mut [u64])
     requires { ⌜ Placed (now sheet) place layers (length (now work)) (length (now built)) ⌝ }
     ensures { λ _. ⌜ RowsPut (jobOf (now (sheet .entry))) place layers (now (work .exit)) (now (built .exit)) ⌝ }
 {
-    let ls = &sheet[40..];
-    let freqs = freqs_at(sheet);
-    let rules = rules_at(sheet);
-    let pairs = pairs_at(sheet);
-    build_rows(
-        work,
-        place,
-        ls,
-        &sheet[freqs..],
-        &sheet[rules..],
-        &sheet[pairs..],
-        rules_of(sheet),
-    );
-    put_layers(ls, place.n, place.k, built);
+    build_graph(work, place, sheet);
+    put_layers(&sheet[40..], place.n, place.k, built);
     put_masks(work, place, layers, built);
 }
 

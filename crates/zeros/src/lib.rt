@@ -1,5 +1,5 @@
-// Zeroes cells and words: "Plan cells and work words are zeroed on every refusal of a planning call", and the work
-// words after every call.
+// Zeroes cells, words and bytes: "Plan cells and work words are zeroed on every refusal of a planning call", the work
+// words after every call, and "every lent output" of an export or an import that is refused.
 // The contracts cite `zeros` of specs/Zeros.antt.
 ghost use mathlib.Core.Path.{_≡_};
 ghost use lib.ListN.{length};
@@ -22,5 +22,15 @@ pub fn zero_words(work: &mut [u64])
     while j < work.len() {
         work[j] = 0;
         j += 1;
+    }
+}
+
+pub fn zero_bytes(out: &mut [u8])
+    ensures { λ _. ⌜ now (out .exit) ≡ zeros (length (now (out .entry))) ⌝ }
+{
+    let mut at = 0;
+    while at < out.len() {
+        out[at] = 0;
+        at += 1;
     }
 }

@@ -5,10 +5,10 @@ use mathlib.Core.Path.{_≡_, sym, ap, _∙_}
 use native.Mathlib.Omega.{arith}
 use Rattle.sheet.specs.Sheet.{kOf}
 use Rattle.sheet.proofs.Accepted.{accepted}
-use Rattle.text.specs.Lines.{ascii, line}
-use Rattle.text.proofs.Pieces.{put-holds, same-holds}
+use Rattle.lines.specs.Lines.{ascii, line}
+use Rattle.text.proofs.Holding.{wrote-holds, same-holds}
 use Rattle.text.proofs.Links.{lines-done}
-use Rattle.text.proofs.Answers.{first-few, found-holds, printed-none, printed-stopped, printed-refused}
+use Rattle.text.proofs.Answers.{found-holds, printed-none, printed-stopped, printed-refused}
 use Rattle.text.proofs.put_answer.Statement.{statement}
 use Rattle.text.proofs.put_answer.Tie as tie
 
@@ -28,8 +28,7 @@ put-link-lines-requires c κs =
     let f = s .pre .1 (sym (v .verdict-number .ensures) ∙ l .before .if1 .taken) in
     let k = l .links-of .ensures in
     let few = accepted _ (f .0) .head .k-small in
-    let one = first-few (s .args .p .nodes) (omega arith) in
-    (omega (arith, p .put-line .ensures .end, p .put-line .ensures .room), omega (arith, f .1), omega arith)
+    (p .put-line .ensures .1, omega (arith, f .1), omega arith)
 
 returns : tie.Need-returns
 unfolding ascii
@@ -42,7 +41,8 @@ returns c =
     let e = sym (v .verdict-number .ensures) ∙ l .before .if1 .taken in
     let few = accepted _ (s .pre .1 e .0) .head .k-small in
     let k : l .links-of .result ≡ kOf (now (s .args .sheet)) = l .links-of .ensures .0 in
-    found-holds _ _ e few (omega arith) (s .pre .0) (p .put-line .ensures) (lines-done k (q .put-link-lines .ensures))
+    found-holds _ _ e few (p .put-line .ensures .1) (s .pre .0) (p .put-line .ensures .0)
+    (lines-done k (q .put-link-lines .ensures))
 
 returns-2 : tie.Need-returns-2
 unfolding ascii
@@ -50,7 +50,8 @@ returns-2 c =
     let p = c .before .before in
     let i = p .before .before .before in
     let e = i .before .before .verdict-number .ensures in
-    same-holds (printed-none _ _ (sym e ∙ i .if2 .taken)) (put-holds (p .put-line2 .ensures))
+    same-holds (printed-none _ _ (sym e ∙ i .if2 .taken))
+    (wrote-holds (omega (arith, p .put-line2 .ensures .1)) (p .put-line2 .ensures .0))
 
 returns-3 : tie.Need-returns-3
 unfolding ascii
@@ -58,7 +59,8 @@ returns-3 c =
     let p = c .before .before in
     let i = p .before .before .before in
     let e = i .before .before .before .verdict-number .ensures in
-    same-holds (printed-stopped _ _ (sym e ∙ i .if3 .taken)) (put-holds (p .put-line3 .ensures))
+    same-holds (printed-stopped _ _ (sym e ∙ i .if3 .taken))
+    (wrote-holds (omega (arith, p .put-line3 .ensures .1)) (p .put-line3 .ensures .0))
 
 returns-4 : tie.Need-returns-4
 unfolding ascii
@@ -70,7 +72,8 @@ returns-4 c =
     let a = j .before .if1 .left in
     let b = j .if2 .left in
     let r = printed-refused _ _ (λ h. a (e ∙ h)) (λ h. b (e ∙ h)) (λ h. i .if3 .left (e ∙ h)) in
-    same-holds (r ∙ ap (λ n. line (ascii "refused") n) (sym e)) (put-holds (p .put-line4 .ensures))
+    same-holds (r ∙ ap (λ n. line (ascii "refused") n) (sym e))
+    (wrote-holds (omega (arith, p .put-line4 .ensures .1)) (p .put-line4 .ensures .0))
 
 pub put-answer-spec : {M : Type 1} → statement M
 put-answer-spec =

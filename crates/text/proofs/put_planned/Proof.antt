@@ -1,7 +1,7 @@
 -- `text::put_planned` meets its contract: where a plan was found the sheet was accepted.
 use borrow.Author.Needs.{needs}
 use native.Mathlib.Omega.{arith}
-use Rattle.text.proofs.Pieces.{same-holds}
+use Rattle.text.proofs.Holding.{same-holds}
 use Rattle.text.proofs.Found.{found-links, given-text}
 use Rattle.text.proofs.put_planned.Statement.{statement}
 use Rattle.text.proofs.put_planned.Tie as tie

@@ -4,7 +4,7 @@ use denote.Ref.{now}
 use mathlib.Core.Path.{refl}
 use native.Mathlib.Omega.{arith}
 use Rattle.text.specs.Text.{printed}
-use Rattle.text.proofs.Pieces.{same-holds}
+use Rattle.text.proofs.Holding.{same-holds}
 use Rattle.text.proofs.Answers.{printed-room, printed-no-room}
 use Rattle.text.proofs.put_text.Statement.{statement}
 use Rattle.text.proofs.put_text.Tie as tie

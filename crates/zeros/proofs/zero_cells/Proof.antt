@@ -1,39 +1,17 @@
--- `zeros::zero_cells` meets its contract: the first i entries are zero.
+-- `zeros::zero_cells` meets its contract: the first entries are zero.
 use borrow.Author.Needs.{needs}
-use borrow.Author.Fill.{fill-none}
-use mathlib.Core.Path.{_≡_}
-use mathlib.Core.List.{_++_}
-use Prim.Native.Nat.{_≤_, _-_}
+use Prim.Native.Nat.{_-_}
 use native.Mathlib.Omega.{arith}
-use lib.ListN.{length, drop, replicate, length-set}
-use Rattle.zeros.specs.Zeros.{zeros}
-use Rattle.zeros.proofs.Zeros.{zero-more, zero-done}
+use lib.ListN.{length, length-set}
+use Rattle.zeros.proofs.Zeros.{ZeroedTo, zero-none, zero-more, zero-done}
 use Rattle.zeros.proofs.zero_cells.Statement.{statement}
 use Rattle.zeros.proofs.zero_cells.Tie as tie
 
 abbrev Inv-loop : tie.InvT-loop
-Inv-loop x₀ i₀ x i = (i ≤ length x) × (length x ≡ length x₀) × (x ≡ replicate i 0 ++ drop i x₀)
+Inv-loop x₀ i₀ x i = ZeroedTo i x₀ x
 
 abbrev μ-loop : tie.MeasureT-loop
 μ-loop x₀ i₀ x i = length x - i
-
-loop-holds : tie.Need-loop-holds Inv-loop μ-loop
-loop-holds c = (search needs, search needs, fill-none _ 0)
-
-loop-less : tie.Need-loop-less Inv-loop μ-loop
-loop-less c = simp length-set (omega arith)
-
-loop-again : tie.Need-loop-again Inv-loop μ-loop
-loop-again c = (
-  simp length-set (omega arith),
-  simp length-set (omega arith),
-  zero-more _ _ _ (omega arith)
-      (c .before .loop .inv .2),
-)
-
-returns : tie.Need-returns Inv-loop μ-loop
-unfolding zeros
-returns c = zero-done _ _ (c .before .loop .i) (omega arith) (c .before .loop .inv .2)
 
 pub zero-cells-spec : {M : Type 1} → statement M
 zero-cells-spec =
@@ -41,11 +19,11 @@ zero-cells-spec =
     (tie.spec
     Inv-loop
     μ-loop
-    loop-holds
+    (λ c. zero-none _)
     (λ c. search needs)
     (λ c. omega arith)
     (λ c. search needs)
-    loop-less
-    loop-again
+    (λ c. simp length-set (omega arith))
+    (λ c. zero-more _ _ (omega arith) (c .before .loop .inv))
     (λ c. search needs)
-    returns)
+    (λ c. zero-done (c .before .loop .i) (omega arith) (c .before .loop .inv)))

@@ -1,0 +1,44 @@
+-- The numbers of the desk's answers.
+use mathlib.Core.Path.{_≡_, refl, _∙_}
+use mathlib.Core.List.{List}
+use Prim.Native.Nat.{ℕ, _+_, _*_, _^_, _≤_}
+use native.Mathlib.Omega.{arith}
+use Rattle.sheet.specs.Refusal.{causeNumber}
+use Rattle.sheet.specs.declared.Cause.{Cause}
+use Rattle.dimacs.specs.Export.{ExportOutcome}
+use Rattle.dimacs.specs.Import.{ImportOutcome}
+use Rattle.graph_export.specs.Gives.{exportNumber, ExportGives}
+use Rattle.graph_export.specs.declared.ExportAnswer.{ExportAnswer}
+use Rattle.graph_export.specs.declared.Exported.{Exported}
+use Rattle.graph_import.specs.Gives.{importNumber, ImportGives}
+use Rattle.graph_import.specs.declared.Imported.{Imported}
+use Rattle.desk.specs.Desk.{exportWord, ExportHanded, importWord, ImportHanded}
+
+cause-few : (c : Cause) → causeNumber c ≤ 8
+cause-few Cause.Form = omega arith
+cause-few Cause.Links = omega arith
+cause-few Cause.Counts = omega arith
+cause-few Cause.Offsets = omega arith
+cause-few Cause.LinkRow = omega arith
+cause-few Cause.Frequency = omega arith
+cause-few Cause.RuleRow = omega arith
+cause-few Cause.PairRow = omega arith
+
+pub export-few : (a : ExportAnswer) → exportNumber a ≤ 15
+export-few ExportAnswer.Written = omega arith
+export-few (ExportAnswer.BadSheet c) = omega (arith, cause-few c)
+export-few ExportAnswer.Short = omega arith
+
+pub export-handed : {o : ExportOutcome} {e : Exported} {r : ℕ} {g c : List ℕ} → ExportGives o e g c
+    → r ≡ e .graph + 2 ^ 32 * e .counts + 2 ^ 48 * exportNumber (e .answer) → ExportHanded o r g c
+unfolding exportWord
+export-handed G q = record {
+  number = q ∙ rw (G .graph-length, G .counts-length, G .answer) refl;
+  graph = G .graph;
+  counts = G .counts;
+}
+
+pub import-handed : {o : ImportOutcome} {i : Imported} {r : ℕ} {s : List ℕ} → ImportGives o i s
+    → r ≡ i .length + 2 ^ 32 * importNumber (i .answer) → ImportHanded o r s
+unfolding importWord
+import-handed G q = record { number = q ∙ rw (G .length, G .answer) refl; sheet = G .sheet }

@@ -1,0 +1,26 @@
+-- The desk's calls: what each returns as one number, and what it leaves in the slices lent.
+use mathlib.Core.Path.{_≡_}
+use mathlib.Core.List.{List}
+use Prim.Native.Nat.{ℕ, _+_, _*_, _^_}
+use Rattle.dimacs.specs.Export.{ExportOutcome}
+use Rattle.dimacs.specs.Import.{ImportOutcome}
+
+-- the length of the graph text, plus 2^32 times that of the counts text, plus 2^48 times the cause, which is 0 where
+-- both are written
+unfoldable pub exportWord : ExportOutcome → ℕ
+exportWord o = o .graphLength + 2 ^ 32 * o .countsLength + 2 ^ 48 * o .answer
+
+-- the number r and the bytes that are left in both outputs are those of an export
+pub record ExportHanded (o : ExportOutcome) (r : ℕ) (g c : List ℕ) : Type 0 where
+  pub number : r ≡ exportWord o
+  pub graph : g ≡ o .graph
+  pub counts : c ≡ o .counts
+
+-- the length of the sheet, plus 2^32 times the cause
+unfoldable pub importWord : ImportOutcome → ℕ
+importWord o = o .length + 2 ^ 32 * o .answer
+
+-- the number r and the bytes that are left in the output are those of an import
+pub record ImportHanded (o : ImportOutcome) (r : ℕ) (s : List ℕ) : Type 0 where
+  pub number : r ≡ importWord o
+  pub sheet : s ≡ o .sheet

@@ -1,0 +1,13 @@
+pub mod Lists
+pub mod Codes
+pub mod Fields
+pub mod Accepts
+pub mod Few
+pub mod Accepted
+pub mod Adjacent
+pub mod Choices
+pub mod Sound
+pub mod Numbers
+pub mod Lines
+pub mod Calls
+pub mod RoundTrip

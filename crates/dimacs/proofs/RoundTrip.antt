@@ -1,0 +1,173 @@
+-- Import gives an accepted sheet with the graph of its texts; and exporting and importing keeps a sheet's graph, and
+-- with it every run.
+use mathlib.Core.Path.{_≡_, refl, sym, ap, subst, _∙_, fun-ext}
+use mathlib.Core.Bool.{Bool, true, false, _&&_}
+use mathlib.Core.List.{List}
+use Prim.Native.Nat.{ℕ, _*_, _≤_, _<_}
+use native.Mathlib.Omega.{arith}
+use lib.Dec.{leb, lit<}
+use lib.ListN.{length}
+use borrow.Author.Tests.{leb-true}
+use Rattle.sets.specs.Sets.{Set}
+use Rattle.sets.specs.Below.{sumTo}
+use Rattle.sets.proofs.Tests.{and-l}
+use Rattle.sets.proofs.Lists.{length-tabulate, getD-tabulate}
+use Rattle.sheet_rows.specs.Rows.{linkFirst, linkCount}
+use Rattle.sheet.specs.Sheet.{kOf, nOf, linkPart, mostPairs, linksOk}
+use Rattle.sheet.specs.Refusal.{refusal, unless}
+use Rattle.sheet.specs.Accepted.{Accepted}
+use Rattle.sheet.proofs.Accepted.{accepted}
+use Rattle.sheet.proofs.Causes.{unless-zero, unless-false}
+use Rattle.sheet.proofs.Links.{link-first, link-sum, link-some}
+use Rattle.rules.specs.Layers.{layerOf}
+use Rattle.rules.specs.Job.{jobOf}
+use Rattle.graph.specs.Graph.{layer, edge}
+use Rattle.graph.proofs.Graph.{adjacent-out, layers-of}
+use Rattle.setting.specs.Setting.{Setting}
+use Rattle.planner.specs.Outcome.{outcome}
+use Rattle.demands.specs.SameGraph.{SameGraph, SameVerdict}
+use Rattle.demands.proofs.SameGraph.{graph-decides}
+use Rattle.dimacs.specs.Export.{graphText, countsText, countsOf, graphTextOf, countsTextOf, ExportOutcome, exported}
+use Rattle.dimacs.specs.Reading.{countOf, firstOf, verticesOf, layerBy, Texts, malformed, clashed, texts, textsOf}
+use Rattle.dimacs.specs.Made.{pairTotal, sheetOf}
+use Rattle.dimacs.specs.Import.{textGraph, sheetBytes, sheetFits, textsCause, importCause, sheetBy, importedSheet, ImportOutcome, imported}
+use Rattle.dimacs.specs.RoundTrip.{HasGraph, Imports, returned, RoundTrip, DimacsLaws}
+use Rattle.dimacs.specs.RoundTrip.{graphSent, countsSent, sheetMade}
+use Rattle.dimacs.proofs.Calls.{sent, received}
+use Rattle.dimacs.proofs.Accepts.{sum-same, Small}
+use Rattle.dimacs.proofs.Accepted.{sheet-accepted}
+use Rattle.dimacs.proofs.Adjacent.{Joins, layer-same, has-graph}
+use Rattle.dimacs.proofs.Sound.{AllTexts, IsGraph, texts-graph, joined-joins}
+use Rattle.dimacs.proofs.Lines.{so-far, written-graph, texts-read}
+
+-- import
+
+pairs-few : (cs : List ℕ) (E : Set) (room : ℕ) → textsCause (texts cs E) room ≡ 0
+    → pairTotal cs (textGraph cs E) ≤ mostPairs
+unfolding textsCause sheetFits
+pairs-few cs E room e =
+    leb-true _ _ (and-l (leb (pairTotal cs (textGraph cs E)) mostPairs) (leb (sheetBytes cs E) room)
+    (unless-zero (leb (pairTotal cs (textGraph cs E)) mostPairs && leb (sheetBytes cs E) room) 15 (lit< tt) e))
+
+by-accepted : (w : Texts) (room : ℕ) → AllTexts IsGraph w → textsCause w room ≡ 0 → refusal (sheetBy w) ≡ 0
+unfolding textsCause sheetBy
+by-accepted malformed room G e = absurd (omega arith)
+by-accepted clashed room G e = absurd (omega arith)
+by-accepted (texts cs E) room G e = sheet-accepted cs (textGraph cs E) (G .small) (pairs-few cs E room e)
+
+by-graph : (w : Texts) → AllTexts IsGraph w → AllTexts (λ cs E. HasGraph (sheetBy w) cs (textGraph cs E)) w
+unfolding sheetBy
+by-graph malformed G = tt
+by-graph clashed G = tt
+by-graph (texts cs E) G = has-graph cs (textGraph cs E) (G .small) (joined-joins cs E (G .apart))
+
+pub imports : (text counts : List ℕ) (room : ℕ) → importCause text counts room ≡ 0 → Imports text counts
+unfolding importCause importedSheet
+imports text counts room e = record {
+  accepted = by-accepted (textsOf text counts) room (texts-graph text counts) e;
+  graph = λ cs E q. subst (AllTexts (λ cs E. HasGraph (sheetBy (textsOf text counts)) cs (textGraph cs E))) q
+      (by-graph (textsOf text counts) (texts-graph text counts));
+}
+
+-- the counts and the adjacency of an accepted sheet
+
+module _ (s : List ℕ) (ok : refusal s ≡ 0) where
+  links : linksOk (linkPart s) (kOf s) (nOf s) ≡ true
+  links = accepted s ok .links
+
+  cs-length : length (countsOf s) ≡ kOf s
+  unfolding countsOf
+  cs-length = length-tabulate (kOf s) (linkCount (linkPart s))
+
+  cs-count : (l : ℕ) → l < kOf s → countOf (countsOf s) l ≡ linkCount (linkPart s) l
+  unfolding countsOf
+  cs-count l h = getD-tabulate (kOf s) (linkCount (linkPart s)) l 0 h
+
+  cs-first : (m : ℕ) → m ≤ kOf s → firstOf (countsOf s) m ≡ sumTo m (linkCount (linkPart s))
+  unfolding firstOf
+  cs-first m h = sum-same m (countOf (countsOf s)) (linkCount (linkPart s)) (λ i l. cs-count i (omega arith))
+
+  cs-vertices : verticesOf (countsOf s) ≡ nOf s
+  cs-vertices = ap (firstOf (countsOf s)) cs-length ∙ cs-first (kOf s) (omega arith)
+      ∙ link-sum (linkPart s) (kOf s) (nOf s) links
+
+  cs-layers : layer (jobOf s) ≡ layerBy (countsOf s) (length (countsOf s))
+  cs-layers = fun-ext (λ v. layer-same (linkPart s) (countsOf s) (kOf s)
+      (λ l h. link-first (linkPart s) (kOf s) (nOf s) links l h ∙ sym (cs-first l (omega arith))) v
+      ∙ ap (λ k. layerBy (countsOf s) k v) (sym cs-length))
+
+  cs-small : Small (countsOf s)
+  cs-small = let h = accepted s ok .head in let l = cs-length in let v = cs-vertices in record {
+    links-some = omega (arith, h .k-some);
+    links-few = omega (arith, h .k-small);
+    freqs-few = omega (arith, h .n-small);
+    some = λ i b. let c : i < kOf s = omega arith in
+        rw (cs-count i c) (link-some (linkPart s) (kOf s) (nOf s) links i c);
+  }
+
+  cs-joins : Joins (countsOf s) (edge (jobOf s))
+  cs-joins = let L = layers-of (jobOf s) ok (layer (jobOf s)) in record {
+    sy = L .sy;
+    left = λ u v t. rw cs-vertices (adjacent-out _ _ _ _ _ _ _ u v t .left);
+    right = λ u v t. rw cs-vertices (adjacent-out _ _ _ _ _ _ _ u v t .right);
+    apart = λ u v t q. L .apart u v t (ap (λ f. f u) cs-layers ∙ q ∙ sym (ap (λ f. f v) cs-layers));
+  }
+
+  back-texts : textsOf (graphTextOf s) (countsTextOf s) ≡ texts (countsOf s)
+      (so-far (countsOf s) (edge (jobOf s)) cs-joins (verticesOf (countsOf s) * verticesOf (countsOf s)))
+  back-texts = ap (λ n. textsOf (graphText n (edge (jobOf s))) (countsText (countsOf s))) (sym cs-vertices)
+      ∙ texts-read (countsOf s) (edge (jobOf s)) cs-joins cs-small
+
+  back-graph : (room : ℕ) → importCause (graphTextOf s) (countsTextOf s) room ≡ 0
+      → HasGraph (importedSheet (graphTextOf s) (countsTextOf s)) (countsOf s) (edge (jobOf s))
+  back-graph room e = subst (HasGraph (importedSheet (graphTextOf s) (countsTextOf s)) (countsOf s))
+      (written-graph (countsOf s) (edge (jobOf s)) cs-joins)
+      (imports (graphTextOf s) (countsTextOf s) room e .graph (countsOf s) _ back-texts)
+
+  pub trip : (room : ℕ) → importCause (graphTextOf s) (countsTextOf s) room ≡ 0 → RoundTrip s
+  trip room e =
+      let H = back-graph room e in
+      let G : SameGraph (jobOf (returned s)) (jobOf s) = record {
+        vertices = H .vertices ∙ cs-vertices;
+        links = H .links ∙ cs-length;
+        layers = H .layers ∙ sym cs-layers;
+        edges = H .edges;
+      } in
+      let accepted = imports (graphTextOf s) (countsTextOf s) room e .accepted in
+      record { same = G; runs = graph-decides .runs _ _ G (accepted ∙ sym ok) }
+
+-- texts that were read are refused for 15 alone
+fifteen : (w : Texts) (cs : List ℕ) (E : Set) (room : ℕ) → w ≡ texts cs E → (textsCause w room ≡ 0 → ⊥)
+    → textsCause w room ≡ 15
+unfolding textsCause unless
+fifteen w cs E room q ne = e ∙ go (sheetFits cs E room) (λ z. ne (e ∙ z))
+  where
+    e : textsCause w room ≡ unless (sheetFits cs E room) 15
+    e = ap (λ x. textsCause x room) q
+
+    go : (b : Bool) → (unless b 15 ≡ 0 → ⊥) → unless b 15 ≡ 15
+    go true h = absurd (h refl)
+    go false h = refl
+
+-- an export that succeeds, and an import of what it wrote
+of-calls : (s : List ℕ) (g c : ℕ) (o : ExportOutcome) → o ≡ exported s g c → o .answer ≡ 0
+    → (room : ℕ) (i : ImportOutcome) → i ≡ imported (graphSent o) (countsSent o) room → i .answer ≡ 0
+    → (x : Setting) (m w : ℕ) → SameVerdict (outcome (jobOf (sheetMade i)) x m w) (outcome (jobOf s) x m w)
+of-calls s g c o p e room i q f x m w =
+    let S = sent s g c (ap (λ z. z .answer) (sym p) ∙ e) in
+    let a = ap graphSent p ∙ S .graph in
+    let b = ap countsSent p ∙ S .counts in
+    let j : i ≡ imported (graphTextOf s) (countsTextOf s) room =
+    q ∙ ap (λ t. imported t (countsSent o) room) a ∙ ap (λ t. imported (graphTextOf s) t room) b in
+    let R = received (graphTextOf s) (countsTextOf s) room (ap (λ z. z .answer) (sym j) ∙ f) in
+    subst (λ t. SameVerdict (outcome (jobOf t) x m w) (outcome (jobOf s) x m w)) (sym (ap sheetMade j ∙ R .sheet))
+    (trip s (S .accepted) room (R .fine) .runs x m w)
+
+pub dimacs-laws : DimacsLaws
+unfolding importCause
+dimacs-laws = record {
+  imports = imports;
+  trips = λ s room ok e. trip s ok room e;
+  refuses = λ s room ok ne. fifteen (textsOf (graphTextOf s) (countsTextOf s)) _ _ room (back-texts s ok) ne;
+  calls = of-calls;
+}

@@ -1,0 +1,56 @@
+-- The import of a graph text and a counts text.
+use mathlib.Core.Bool.{Bool, true, false, _&&_}
+use mathlib.Core.List.{List, []}
+use Prim.Native.Nat.{ℕ, _*_}
+use lib.Dec.{leb, eqb}
+use lib.ListN.{length}
+use Rattle.sets.specs.Sets.{Set}
+use Rattle.sheet.specs.Sheet.{mostPairs, endAt}
+use Rattle.sheet.specs.Refusal.{unless}
+use Rattle.zeros.specs.Zeros.{zeros}
+use Rattle.output.specs.Output.{padded}
+use Rattle.dimacs.specs.Reading.{verticesOf, Texts, malformed, clashed, texts, textsOf}
+use Rattle.dimacs.specs.Made.{joined, ruleTotal, pairTotal, sheetOf}
+
+-- the adjacency that the texts say
+abbrev pub textGraph : List ℕ → Set → ℕ → ℕ → Bool
+textGraph cs E = joined (verticesOf cs) E
+
+-- the bytes of the sheet of the texts
+unfoldable pub sheetBytes : List ℕ → Set → ℕ
+sheetBytes cs E = endAt (length cs) (verticesOf cs) (ruleTotal cs (textGraph cs E)) (pairTotal cs (textGraph cs E))
+
+-- "15 more than 8,192 kind 3 pairs or a lent output too short"
+unfoldable pub sheetFits : List ℕ → Set → ℕ → Bool
+sheetFits cs E room = leb (pairTotal cs (textGraph cs E)) mostPairs && leb (sheetBytes cs E) room
+
+-- 13, 14 and 15 in this order, or 0
+unfoldable pub textsCause : Texts → ℕ → ℕ
+textsCause malformed room = 13
+textsCause clashed room = 14
+textsCause (texts cs E) room = unless (sheetFits cs E room) 15
+
+unfoldable pub importCause : List ℕ → List ℕ → ℕ → ℕ
+importCause text counts room = textsCause (textsOf text counts) room
+
+-- the sheet of two texts
+unfoldable pub sheetBy : Texts → List ℕ
+sheetBy malformed = []
+sheetBy clashed = []
+sheetBy (texts cs E) = sheetOf cs (textGraph cs E)
+
+unfoldable pub importedSheet : List ℕ → List ℕ → List ℕ
+importedSheet text counts = sheetBy (textsOf text counts)
+
+-- what the call gives: 0 or the cause, the length, and every byte of the output
+pub record ImportOutcome : Type 0 where
+  pub answer : ℕ
+  pub length : ℕ
+  pub sheet : List ℕ
+
+unfoldable pub imported : List ℕ → List ℕ → ℕ → ImportOutcome
+imported text counts room = elim (eqb (importCause text counts room) 0) [
+  | true ↦ record
+      { answer = 0; length = length (importedSheet text counts); sheet = padded (importedSheet text counts) room }
+  | false ↦ record { answer = importCause text counts room; length = 0; sheet = zeros room }
+]

@@ -1,0 +1,9 @@
+pub mod Numbers
+pub mod Fields
+pub mod Shorter
+pub mod CountLines
+pub mod Firsts
+pub mod OneLine
+pub mod EdgeLines
+pub mod FirstLine
+pub mod Texts

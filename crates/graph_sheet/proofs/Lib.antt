@@ -1,0 +1,3 @@
+pub mod Pairing
+pub mod Ruling
+pub mod Writing

@@ -1,0 +1,70 @@
+-- The graph in the words that import keeps, and what is counted of it.
+use mathlib.Core.Path.{_≡_}
+use mathlib.Core.Bool.{Bool, true, false}
+use mathlib.Core.List.{List}
+use Prim.Native.Nat.{ℕ, _+_, _*_, _/_, _%_, _≤_}
+use lib.ListN.{length, take}
+use Rattle.sets.specs.Below.{count}
+use Rattle.dimacs.specs.Lists.{select}
+use Rattle.dimacs.specs.Reading.{countOf, firstOf}
+use Rattle.dimacs.specs.Made.{pairsOf, isRuled, ruleTotal, pairTotal, pairsBefore}
+use Rattle.graph_read.specs.Graphs.{Links}
+use Rattle.graph_sheet.specs.declared.joins.RuleAt.{RuleAt}
+use Rattle.graph_sheet.specs.declared.joins.Totals.{Totals}
+use Rattle.graph_sheet.specs.declared.joins.Two.{Two}
+
+-- the counts of k links of n vertices, and room for the codes of the edges
+pub record GraphIn (counts : List ℕ) (k n len : ℕ) : Type 0 where
+  pub links : Links counts k
+  pub vertices : n ≡ firstOf (take k counts) k
+  pub room : len ≡ 4096
+
+-- p is links a and b
+pub record TwoOf (cs : List ℕ) (a b : ℕ) (p : Two) : Type 0 where
+  pub first : p .first ≡ firstOf cs a
+  pub count : p .count ≡ countOf cs a
+  pub second : p .second ≡ firstOf cs b
+  pub width : p .width ≡ countOf cs b
+
+-- the vertices of two links are below n
+pub record Among (n : ℕ) (p : Two) : Type 0 where
+  pub few : n ≤ 512
+  pub first : p .first + p .count ≤ n
+  pub second : p .second + p .width ≤ n
+
+-- `isPair` and `pairsOf` of two links
+unfoldable pub joinedAt : (ℕ → ℕ → Bool) → Two → ℕ → Bool
+joinedAt adj p z = adj (p .first + z / p .width) (p .second + z % p .width)
+
+unfoldable pub pairsIn : (ℕ → ℕ → Bool) → Two → List ℕ
+pairsIn adj p = select (p .count * p .width) (joinedAt adj p)
+
+-- r is the number of pairs that join two links
+pub record PairCount (adj : ℕ → ℕ → Bool) (p : Two) (r : ℕ) : Type 0 where
+  pub few : r ≤ p .count * p .width
+  pub is : r ≡ length (pairsIn adj p)
+
+-- r says whether the links with the code z get a rule, and then how many pairs join them
+pub record RuleTold (cs : List ℕ) (adj : ℕ → ℕ → Bool) (z : ℕ) (r : RuleAt) : Type 0 where
+  pub ruled : r .ruled ≡ isRuled cs adj z
+  pub pairs : r .ruled ≡ true → r .pairs ≡ length (pairsOf cs adj (z / length cs) (z % length cs))
+  pub few : r .pairs ≤ 262144
+
+-- u is the totals t with the rule r, if it is one
+pub record Tallied (t : Totals) (r : RuleAt) (u : Totals) : Type 0 where
+  pub yes : r .ruled ≡ true → (u .rules ≡ t .rules + 1) × (u .pairs ≡ t .pairs + r .pairs)
+  pub no : r .ruled ≡ false → (u .rules ≡ t .rules) × (u .pairs ≡ t .pairs)
+
+-- t is the rules of the codes below z, and their pairs
+pub record Tally (cs : List ℕ) (adj : ℕ → ℕ → Bool) (z : ℕ) (t : Totals) : Type 0 where
+  pub rules : t .rules ≡ count z (isRuled cs adj)
+  pub pairs : t .pairs ≡ pairsBefore cs adj (count z (isRuled cs adj))
+  pub rules-few : t .rules ≤ z
+  pub pairs-few : t .pairs ≤ 262144 * z
+
+-- r is all rules, and all pairs
+pub record TotalsOf (cs : List ℕ) (adj : ℕ → ℕ → Bool) (r : Totals) : Type 0 where
+  pub rules : r .rules ≡ ruleTotal cs adj
+  pub pairs : r .pairs ≡ pairTotal cs adj
+  pub rules-few : r .rules ≤ 4096
+  pub pairs-few : r .pairs ≤ 1073741824

@@ -1,0 +1,98 @@
+/* Calls the functions of include/guvtemi_desk.h for records on standard input and writes what came back to standard output.
+
+   A record, little-endian: call (0 export, 1 import), the lengths of its three slices (32 bits each), then their bytes; those of a
+   slice that is written are what it holds before. An answer: the number returned (64 bits), 32 bits that are 0 where everything
+   that must stay as it was did, then the bytes of each slice that is written.
+
+   GUARD bytes stand before and after each slice. Without them every buffer has just its length, so that a memory checker sees each
+   byte read or written past it. An empty slice is null. */
+
+#include "guvtemi_desk.h"
+
+#include <stdio.h>
+#include <stdlib.h>
+#include <string.h>
+
+#ifndef GUARD
+#define GUARD 0
+#endif
+
+enum { SLICES = 3 };
+
+typedef struct {
+    size_t length;
+    uint8_t *buffer, *before;
+} Slice;
+
+static void *space(size_t length)
+{
+    void *bytes = malloc(length ? length : 1);
+    if (bytes == NULL) {
+        fprintf(stderr, "desk_driver: no memory\n");
+        exit(2);
+    }
+    return bytes;
+}
+
+static size_t whole(const Slice *slice)
+{
+    return slice->length + 2 * (size_t)GUARD;
+}
+
+static void take(Slice *slice)
+{
+    slice->buffer = space(whole(slice));
+    slice->before = space(whole(slice));
+    memset(slice->buffer, 0xa5, whole(slice));
+    if (fread(slice->buffer + GUARD, 1, slice->length, stdin) != slice->length) {
+        fprintf(stderr, "desk_driver: a record is cut short\n");
+        exit(2);
+    }
+    memcpy(slice->before, slice->buffer, whole(slice));
+}
+
+static uint8_t *lent(const Slice *slice)
+{
+    return slice->length ? slice->buffer + GUARD : NULL;
+}
+
+static int changed(const Slice *slice, int written)
+{
+    if (!written)
+        return memcmp(slice->buffer, slice->before, whole(slice)) != 0;
+    size_t behind = GUARD + slice->length;
+    return memcmp(slice->buffer, slice->before, GUARD) != 0 || memcmp(slice->buffer + behind, slice->before + behind, GUARD) != 0;
+}
+
+static uint64_t call(uint32_t number, const Slice *slices)
+{
+    const Slice *a = slices, *b = slices + 1, *c = slices + 2;
+    if (number == 0)
+        return guvtemi_export(lent(a), a->length, lent(b), b->length, lent(c), c->length);
+    return guvtemi_import(lent(a), a->length, lent(b), b->length, lent(c), c->length);
+}
+
+int main(void)
+{
+    uint32_t head[1 + SLICES];
+    while (fread(head, sizeof head[0], 1 + SLICES, stdin) == 1 + SLICES) {
+        Slice slices[SLICES];
+        int first_written = head[0] == 0 ? 1 : 2;
+        for (int i = 0; i < SLICES; i++) {
+            slices[i].length = head[1 + i];
+            take(&slices[i]);
+        }
+        uint64_t returned = call(head[0], slices);
+        uint32_t other = 0;
+        for (int i = 0; i < SLICES; i++)
+            other |= (uint32_t)changed(&slices[i], i >= first_written);
+        fwrite(&returned, sizeof returned, 1, stdout);
+        fwrite(&other, sizeof other, 1, stdout);
+        for (int i = 0; i < SLICES; i++) {
+            if (i >= first_written)
+                fwrite(slices[i].buffer + GUARD, 1, slices[i].length, stdout);
+            free(slices[i].buffer), free(slices[i].before);
+        }
+    }
+    return 0;
+}
