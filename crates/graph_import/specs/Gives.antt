@@ -13,8 +13,8 @@ use Rattle.graph_import.specs.declared.ImportAnswer.{ImportAnswer}
 use Rattle.graph_import.specs.declared.ImportAnswer.the-variants.{Written, Malformed, Clashing, Short}
 use Rattle.graph_import.specs.declared.Imported.{Imported}
 
--- 0 where the sheet is written, 13 "text malformed or outside form 1's" limits, 14 "edge inside a link or repeated either way",
--- 15 "more than 8,192 kind 3 pairs or a lent output too short"
+-- 0 where the sheet is written, 13 "text malformed or outside form 1's" limits, 14 "edge inside a link or repeated
+-- either way", 15 "more than 8,192 kind 3 pairs or a lent output too short"
 abbrev pub importNumber : ImportAnswer → ℕ
 importNumber Written = 0
 importNumber Malformed = 13

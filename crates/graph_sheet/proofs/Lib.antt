@@ -1,3 +1,5 @@
 pub mod Pairing
 pub mod Ruling
+pub mod Marking
 pub mod Writing
+pub mod PairWriting

@@ -14,7 +14,8 @@ use Rattle.output.specs.Output.{Wrote}
 use Rattle.output.proofs.Wrote.{wrote-none, wrote-then, wrote-same}
 use Rattle.dimacs.specs.Lists.{forEach, joinTo}
 use Rattle.dimacs.specs.Reading.{countOf}
-use Rattle.dimacs.specs.Made.{pairsOf, isRuled, ruled, ruledA, ruledB, rulePairs, pairsBefore, ruleTotal, pairTotal, kindOf, valueOf, ruleRow, pairRow, rulePairRows}
+use Rattle.dimacs.specs.Made.{pairsOf, isRuled, ruled, ruledA, ruledB, rulePairs, pairsBefore, ruleTotal, pairTotal}
+use Rattle.dimacs.specs.Made.{kindOf, valueOf, ruleRow, pairRow, rulePairRows}
 use Rattle.dimacs.proofs.Lists.{select-length, select-has, count-pass}
 use Rattle.graph_sheet.specs.Rows.{ruleRowBytes}
 use Rattle.graph_sheet.specs.Pairs.{RuleTold, Tallied, Tally, TotalsOf}
@@ -35,15 +36,18 @@ module _ (p : ℕ → Bool) (f : ℕ → List ℕ) where
   unfolding count joinTo
   rows-none o at = wrote-none o at
 
-  pub rows-more : {o q s : List ℕ} {at e r : ℕ} (z : ℕ) (b : Bool) → b ≡ p z → Wrote (joinTo (count z p) f) o at q e → Wrote (cond b (f (count z p)) []) q e s r → Wrote (joinTo (count (z + 1) p) f) o at s r
+  pub rows-more : {o q s : List ℕ} {at e r : ℕ} (z : ℕ) (b : Bool) → b ≡ p z → Wrote (joinTo (count z p) f) o at q e
+      → Wrote (cond b (f (count z p)) []) q e s r → Wrote (joinTo (count (z + 1) p) f) o at s r
   unfolding joinTo
-  rows-more {o} {q} {s} {at} {e} {r} z true h x y = wrote-same (sym (ap (λ i. joinTo i f) (count-yes z p (sym h)))) (wrote-then x y)
-  rows-more {o} {q} {s} {at} {e} {r} z false h x y = wrote-same (append-none ∙ sym (ap (λ i. joinTo i f) (count-no z p (sym h)))) (wrote-then x y)
+  rows-more z true h x y = wrote-same (sym (ap (λ i. joinTo i f) (count-yes z p (sym h)))) (wrote-then x y)
+  rows-more z false h x y =
+      wrote-same (append-none ∙ sym (ap (λ i. joinTo i f) (count-no z p (sym h)))) (wrote-then x y)
     where
       append-none : joinTo (count z p) f ++ [] ≡ joinTo (count z p) f
       append-none = simp append-nil
 
-  pub rows-done : {o q : List ℕ} {at e : ℕ} (z m : ℕ) → z ≡ m → Wrote (joinTo (count z p) f) o at q e → Wrote (joinTo (count m p) f) o at q e
+  pub rows-done : {o q : List ℕ} {at e : ℕ} (z m : ℕ) → z ≡ m → Wrote (joinTo (count z p) f) o at q e
+      → Wrote (joinTo (count m p) f) o at q e
   rows-done z m h x = wrote-same (ap (λ i. joinTo (count i p) f) h) x
 
 module _ (cs : List ℕ) (adj : ℕ → ℕ → Bool) where
@@ -67,7 +71,8 @@ module _ (cs : List ℕ) (adj : ℕ → ℕ → Bool) where
     unfolding rulePairs ruledA ruledB
     place-pairs = ap (λ x. pairsOf cs adj (x / length cs) (x % length cs)) code-is
 
-    pub row-is : ruleRow cs adj (placeOf z) ≡ ruleRowBytes (z / length cs) (z % length cs) (length (pairsAt z)) (pairsBefore cs adj (placeOf z))
+    pub row-is : ruleRow cs adj (placeOf z)
+        ≡ ruleRowBytes (z / length cs) (z % length cs) (length (pairsAt z)) (pairsBefore cs adj (placeOf z))
     unfolding ruleRow ruleRowBytes ruledA ruledB kindOf valueOf
     row-is = rw (code-is, place-pairs)
 
@@ -82,7 +87,8 @@ module _ (cs : List ℕ) (adj : ℕ → ℕ → Bool) where
     pub pairs-within : pairsBefore cs adj (placeOf z) + length (pairsAt z) ≤ pairTotal cs adj
     unfolding pairsBefore
     pairs-within =
-        let l : placeOf z < ruleTotal cs adj = rw total-is (count-pass z (length cs * length cs) (isRuled cs adj) h t) in
+        let all = count-pass z (length cs * length cs) (isRuled cs adj) h t in
+        let l : placeOf z < ruleTotal cs adj = rw total-is all in
         let s = sum-in (ruleTotal cs adj) (placeOf z) (λ i. length (rulePairs cs adj i)) l in
         omega (arith, ap length place-pairs)
 
@@ -91,7 +97,8 @@ module _ (cs : List ℕ) (adj : ℕ → ℕ → Bool) where
   unfolding count pairsBefore sumTo
   tally-none = record { rules = refl; pairs = refl; rules-few = omega arith; pairs-few = omega arith }
 
-  pub tally-more : (z : ℕ) {t u : Totals} {r : RuleAt} → z < length cs * length cs → Tally cs adj z t → RuleTold cs adj z r → Tallied t r u → Tally cs adj (z + 1) u
+  pub tally-more : (z : ℕ) {t u : Totals} {r : RuleAt} → z < length cs * length cs → Tally cs adj z t
+      → RuleTold cs adj z r → Tallied t r u → Tally cs adj (z + 1) u
   tally-more z {t} {u} {r} h T R A = bool (r .ruled) yes no
     where
       yes : r .ruled ≡ true → Tally cs adj (z + 1) u
@@ -101,7 +108,10 @@ module _ (cs : List ℕ) (adj : ℕ → ℕ → Bool) where
           let c = count-yes z (isRuled cs adj) q in
           record {
             rules = omega (arith, y .0, T .rules, c);
-            pairs = y .1 ∙ ap (λ x. x + r .pairs) (T .pairs) ∙ ap (λ x. pairsBefore cs adj (placeOf z) + x) (R .pairs e) ∙ sym (before-more z h q) ∙ ap (pairsBefore cs adj) (sym c);
+            pairs =
+                y .1 ∙ ap (λ x. x + r .pairs) (T .pairs)
+                ∙ ap (λ x. pairsBefore cs adj (placeOf z) + x) (R .pairs e)
+                ∙ sym (before-more z h q) ∙ ap (pairsBefore cs adj) (sym c);
             rules-few = omega (arith, y .0, T .rules-few);
             pairs-few = omega (arith, y .1, T .pairs-few, R .few);
           }
@@ -118,7 +128,12 @@ module _ (cs : List ℕ) (adj : ℕ → ℕ → Bool) where
           }
 
   pub tally-all : (k z : ℕ) {t : Totals} → k ≡ length cs → k ≤ 64 → z ≡ k * k → Tally cs adj z t → TotalsOf cs adj t
-  tally-all k z {t} e few q T =
+  tally-all k z e few q T =
       let l : k * k ≤ 4096 = mul-le-mul few few in
       let c : placeOf z ≡ ruleTotal cs adj = ap placeOf (q ∙ ap (λ x. x * x) e) ∙ sym total-is in
-      record { rules = T .rules ∙ c; pairs = T .pairs ∙ ap (pairsBefore cs adj) c; rules-few = omega (arith, T .rules-few); pairs-few = omega (arith, T .pairs-few) }
+      record {
+        rules = T .rules ∙ c;
+        pairs = T .pairs ∙ ap (pairsBefore cs adj) c;
+        rules-few = omega (arith, T .rules-few);
+        pairs-few = omega (arith, T .pairs-few);
+      }

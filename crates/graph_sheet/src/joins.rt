@@ -1,14 +1,20 @@
-// How many pairs join two links, which links get a rule, and how many rules and pairs there are.
+// How many pairs join two links, and which links get a rule.
 ghost use mathlib.Core.Path.{_≡_};
-ghost use Prim.Native.Nat.{_+_, _*_, _≤_, _<_};
-ghost use lib.ListN.{length, take};
-ghost use Rattle.sets.specs.Below.{one};
+ghost use Prim.Native.Nat.{_+_, _*_, _<_};
+ghost use lib.ListN.{length};
+ghost use Rattle.sets.specs.Below.{one, count};
 ghost use Rattle.vset.specs.Words.{has};
 ghost use Rattle.dimacs.specs.Made.{joined};
 ghost use Rattle.graph_read.specs.Graphs.{Links, CodesFit};
-ghost use Rattle.graph_sheet.specs.Pairs.{GraphIn, TwoOf, Among, joinedAt, PairCount, RuleTold, Tallied, TotalsOf};
-use graph_read::first_of;
+ghost use Rattle.graph_sheet.specs.Pairs.{FirstsTo, GraphLaid, countsIn, adjacentIn};
+ghost use Rattle.graph_sheet.specs.Pairs.{TwoOf, Among, joinedIn, PairCount, RuleTold};
 use graph_read::is_joined;
+
+// The links and the vertices of a graph.
+pub struct Sizes {
+    pub links: usize,
+    pub vertices: usize,
+}
 
 // Two links: the first vertex and the count of each.
 pub struct Two {
@@ -30,28 +36,33 @@ pub struct Totals {
     pub pairs: usize,
 }
 
-// Links a and b.
-pub fn two_links(counts: &[u64], k: usize, a: usize, b: usize) -> Two
-    requires { ⌜ Links (now counts) k × (a < k) × (b < k) ⌝ }
-    ensures { λ r. ⌜ TwoOf (take k (now (counts .entry))) a b r ⌝ }
+// Keeps the first vertex of each link.
+pub fn keep_firsts(counts: &[u64], s: Sizes, firsts: &mut [u64])
+    requires { ⌜ Links (now counts) (s .links) × (length (now firsts) ≡ 64) ⌝ }
+    ensures { λ _. ⌜ FirstsTo (countsIn (now (counts .entry)) s) (now (firsts .exit)) (s .links) ⌝ }
 {
-    let first = first_of(counts, k, a);
-    let second = first_of(counts, k, b);
-    Two {
-        first,
-        count: counts[a] as usize,
-        second,
-        width: counts[b] as usize,
+    let k = s.links;
+    let mut first: u64 = 0;
+    let mut l = 0;
+    while l < k {
+        firsts[l] = first;
+        first += counts[l];
+        l += 1;
     }
 }
 
-// Whether the pair with the code z joins two links.
-pub fn is_pair(codes: &[u64], n: usize, p: Two, z: usize) -> bool
-    requires { ⌜ CodesFit n (length (now codes)) × Among n p × (z < p .count * p .width) ⌝ }
-    ensures { λ r. ⌜ r ≡ joinedAt (joined n (has (now (codes .entry)))) p z ⌝ }
+// Links a and b.
+pub fn two_links(counts: &[u64], firsts: &[u64], s: Sizes, a: usize, b: usize) -> Two
+    requires { ⌜ Links (now counts) (s .links) × FirstsTo (countsIn (now counts) s) (now firsts) (s .links)
+        × (a < s .links) × (b < s .links) ⌝ }
+    ensures { λ r. ⌜ TwoOf (countsIn (now (counts .entry)) s) a b r ⌝ }
 {
-    let w = p.width;
-    is_joined(codes, n, p.first + z / w, p.second + z % w)
+    Two {
+        first: firsts[a] as usize,
+        count: counts[a] as usize,
+        second: firsts[b] as usize,
+        width: counts[b] as usize,
+    }
 }
 
 // One more where the test holds.
@@ -62,26 +73,43 @@ fn counted(m: usize, b: bool) -> usize
     if b { m + 1 } else { m }
 }
 
+// How many vertices of the second link are adjacent to position x of the first.
+fn row_count(codes: &[u64], n: usize, p: Two, x: usize) -> usize
+    requires { ⌜ CodesFit n (length (now codes)) × Among n p × (x < p .count) ⌝ }
+    ensures { λ r. ⌜ r ≡ count (p .width) (joinedIn (joined n (has (now (codes .entry)))) p x) ⌝ }
+{
+    let w = p.width;
+    let u = p.first + x;
+    let mut m: usize = 0;
+    let mut y = 0;
+    while y < w {
+        m = counted(m, is_joined(codes, n, u, p.second + y));
+        y += 1;
+    }
+    m
+}
+
 // How many pairs join two links.
 fn pair_count(codes: &[u64], n: usize, p: Two) -> usize
     requires { ⌜ CodesFit n (length (now codes)) × Among n p ⌝ }
     ensures { λ r. ⌜ PairCount (joined n (has (now (codes .entry)))) p r ⌝ }
 {
-    let most = p.count * p.width;
+    let rows = p.count;
     let mut m: usize = 0;
-    let mut z = 0;
-    while z < most {
-        m = counted(m, is_pair(codes, n, p, z));
-        z += 1;
+    let mut x = 0;
+    while x < rows {
+        m += row_count(codes, n, p, x);
+        x += 1;
     }
     m
 }
 
 // Whether the links with the code z get a rule, and how many pairs join them.
-pub fn rule_at(counts: &[u64], k: usize, n: usize, codes: &[u64], z: usize) -> RuleAt
-    requires { ⌜ GraphIn (now counts) k n (length (now codes)) × (z < k * k) ⌝ }
-    ensures { λ r. ⌜ RuleTold (take k (now (counts .entry))) (joined n (has (now (codes .entry)))) z r ⌝ }
+pub fn rule_at(counts: &[u64], firsts: &[u64], codes: &[u64], s: Sizes, z: usize) -> RuleAt
+    requires { ⌜ GraphLaid (now counts) (now firsts) s (length (now codes)) × (z < s .links * s .links) ⌝ }
+    ensures { λ r. ⌜ RuleTold (countsIn (now (counts .entry)) s) (adjacentIn (now (codes .entry)) s) z r ⌝ }
 {
+    let k = s.links;
     let a = z / k;
     let b = z % k;
     if a >= b {
@@ -90,40 +118,11 @@ pub fn rule_at(counts: &[u64], k: usize, n: usize, codes: &[u64], z: usize) -> R
             pairs: 0,
         };
     }
-    let p = two_links(counts, k, a, b);
-    let pairs = pair_count(codes, n, p);
+    let p = two_links(counts, firsts, s, a, b);
+    let pairs = pair_count(codes, s.vertices, p);
     let most = p.count * p.width;
     RuleAt {
         ruled: pairs != most,
         pairs,
     }
-}
-
-// The totals with one rule more, if it is one.
-pub fn tallied(t: Totals, r: RuleAt) -> Totals
-    requires { ⌜ (t .rules ≤ 4096) × (t .pairs ≤ 1073741824) × (r .pairs ≤ 262144) ⌝ }
-    ensures { λ u. ⌜ Tallied t r u ⌝ }
-{
-    if r.ruled {
-        return Totals {
-            rules: t.rules + 1,
-            pairs: t.pairs + r.pairs,
-        };
-    }
-    t
-}
-
-// The rules of a graph, and their pairs.
-pub fn count_rules(counts: &[u64], k: usize, n: usize, codes: &[u64]) -> Totals
-    requires { ⌜ GraphIn (now counts) k n (length (now codes)) ⌝ }
-    ensures { λ r. ⌜ TotalsOf (take k (now (counts .entry))) (joined n (has (now (codes .entry)))) r ⌝ }
-{
-    let most = k * k;
-    let mut t = Totals { rules: 0, pairs: 0 };
-    let mut z = 0;
-    while z < most {
-        t = tallied(t, rule_at(counts, k, n, codes, z));
-        z += 1;
-    }
-    t
 }

@@ -11,14 +11,11 @@ import-zeroed-requires c κs = zero-again _ _ (c .before .before .before .zero-b
 
 returns : tie.Need-returns
 returns c =
-    let s = c .before .before .before .before .before .before .before .before .before .before .before .args in
-    gives-sized (now (s .text)) (now (s .sizes)) (zero-length _ _ (c .before .before .before .before .before .before .zero-bytes .ensures)) (c .before .before .import-zeroed .ensures)
+    let read = c .before .before in
+    let zeroed = read .before .before .before .before in
+    let s = zeroed .before .before .before .before .before .args in
+    let size = zero-length _ _ (zeroed .zero-bytes .ensures) in
+    gives-sized (now (s .text)) (now (s .sizes)) size (read .import-zeroed .ensures)
 
 pub import-spec : {M : Type 1} → statement M
-import-spec =
-    tie.close
-    (tie.spec
-    (λ c κs. search needs)
-    import-zeroed-requires
-    (λ c. search needs)
-    returns)
+import-spec = tie.close (tie.spec (λ c κs. search needs) import-zeroed-requires (λ c. search needs) returns)

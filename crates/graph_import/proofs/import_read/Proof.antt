@@ -6,16 +6,39 @@ use Rattle.graph_import.proofs.import_read.Statement.{statement}
 use Rattle.graph_import.proofs.import_read.Tie as tie
 
 write-graph-requires : tie.Need-write-graph-requires
-write-graph-requires c κs = let s = c .before .before .before .before .before .before .before .before .before .before .before .before .before .before .before .before .before .before in (graph-told (now (s .args .text)) (now (s .args .sizes)) _ _ _ _ (c .before .before .before .before .before .before .before .before .before .before .read-texts .ensures) (c .before .before .before .before .t .given .1) .graph _ (search needs), s .pre .2)
+write-graph-requires c κs =
+    let graph = c .before .before .before .before .before .before in
+    let read = graph .before .before .before .before .before .before in
+    let s = read .before .before .before .before .before .before .before .before .before .before in
+    let told = graph-told (now (s .args .text)) (now (s .args .sizes)) _ _ _ _ (read .read-texts .ensures) in
+    (told (graph .t .given .1) .graph _ (search needs), s .pre .1, s .pre .3, s .pre .4)
 
 returns : tie.Need-returns
-returns c = let s = c .before .before .before .before .before .before .before .before .before .before .before .before .before .before .before .before .before .before .before .before .before in graph-gives (now (s .args .text)) (now (s .args .sizes)) _ (graph-told (now (s .args .text)) (now (s .args .sizes)) _ _ _ _ (c .before .before .before .before .before .before .before .before .before .before .before .before .before .read-texts .ensures) (c .before .before .before .before .before .before .before .t .given .1)) (c .before .before .write-graph .ensures)
+returns c =
+    let write = c .before .before .before .before .before .before in
+    let graph = write .before .before .before .before .before .before .before in
+    let read = graph .before .before .before .before .before .before in
+    let s = read .before .before .before .before .before .before .before .before .before .before in
+    let text = now (s .args .text) in
+    let sizes = now (s .args .sizes) in
+    let told = graph-told text sizes _ _ _ _ (read .read-texts .ensures) (graph .t .given .1) in
+    graph-gives text sizes _ _ _ told (write .write-graph .ensures)
 
 returns-2 : tie.Need-returns-2
-returns-2 c = let s = c .before .before .before .before .before .before .before .before .before .before .before .before .before .before .before in clash-gives (now (s .args .text)) (now (s .args .sizes)) _ _ (now (s .args .sheet)) (s .pre .2) (c .before .before .before .before .before .before .before .read-texts .ensures) (c .before .enum-told .given .1) (c .refused .ensures)
+returns-2 c =
+    let read = c .before .before .before .before .before .before .before in
+    let s = read .before .before .before .before .before .before .before .before .before .before in
+    let told = read .read-texts .ensures in
+    clash-gives (now (s .args .text)) (now (s .args .sizes)) _ _ (s .pre .4) told (c .before .enum-told .given .1)
+    (c .refused .ensures)
 
 returns-3 : tie.Need-returns-3
-returns-3 c = let s = c .before .before .before .before .before .before .before .before .before .before .before .before .before .before .before in bad-gives (now (s .args .text)) (now (s .args .sizes)) _ _ (now (s .args .sheet)) (s .pre .2) (c .before .before .before .before .before .before .before .read-texts .ensures) (c .before .enum-told2 .given .1) (c .refused2 .ensures)
+returns-3 c =
+    let read = c .before .before .before .before .before .before .before in
+    let s = read .before .before .before .before .before .before .before .before .before .before in
+    let told = read .read-texts .ensures in
+    bad-gives (now (s .args .text)) (now (s .args .sizes)) _ _ (s .pre .4) told (c .before .enum-told2 .given .1)
+    (c .refused2 .ensures)
 
 pub import-read-spec : {M : Type 1} → statement M
 import-read-spec =
@@ -28,6 +51,8 @@ import-read-spec =
     (λ c κs. search needs)
     (λ c. search needs)
     (λ c κs. search needs)
+    (λ c. search needs)
+    (λ c. search needs)
     (λ c. search needs)
     (λ c. search needs)
     (λ c. search needs)

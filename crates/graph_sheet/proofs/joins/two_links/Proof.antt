@@ -5,14 +5,16 @@ use Rattle.graph_sheet.proofs.joins.two_links.Statement.{statement}
 use Rattle.graph_sheet.proofs.joins.two_links.Tie as tie
 
 returns : tie.Need-returns
-returns c = let s = c .before .before .before .before .before in two-made _ _ _ _ _ _ (s .pre .1) (s .pre .2) (c .before .before .before .first-of .ensures) (c .before .before .first-of2 .ensures)
+returns c = let s = c .before .before .before .before in two-made _ _ _ _ _ (s .pre .1) (s .pre .2) (s .pre .3)
 
 pub two-links-spec : {M : Type 1} → statement M
 two-links-spec =
     tie.close
     (tie.spec
-    (λ c κs. search needs)
-    (λ c κs. search needs)
+    (λ c. search needs)
+    (λ c. search needs)
+    (λ c. search needs)
+    (λ c. search needs)
     (λ c. search needs)
     (λ c. search needs)
     (λ c. search needs)

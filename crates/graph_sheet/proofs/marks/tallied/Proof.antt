@@ -1,9 +1,9 @@
--- `graph_sheet::joins::tallied` meets its contract.
+-- `graph_sheet::marks::tallied` meets its contract.
 use borrow.Author.Needs.{needs}
 use mathlib.Core.Path.{refl}
 use Rattle.sets.proofs.Tests.{clash}
-use Rattle.graph_sheet.proofs.joins.tallied.Statement.{statement}
-use Rattle.graph_sheet.proofs.joins.tallied.Tie as tie
+use Rattle.graph_sheet.proofs.marks.tallied.Statement.{statement}
+use Rattle.graph_sheet.proofs.marks.tallied.Tie as tie
 
 returns : tie.Need-returns
 returns c = record { yes = λ _. (refl, refl); no = λ q. clash _ (c .before .before .before .if1 .taken) q }

@@ -1,20 +1,21 @@
-// Numbers as little-endian bytes, put one after another.
+// Little-endian fields, put into a lent output that may be too short.
+// The contracts say by `Wrote` of the crate `output` that the bytes of 16 and 32 bits were put: `bytes16` of the crate
+// `wire`, and `full` and `fulls` of specs/Puts.antt.
 ghost use mathlib.Core.List.{_++_};
 ghost use Prim.Native.Nat.{_+_, _*_, _≤_, _<_};
 ghost use lib.ListN.{length};
 ghost use Rattle.wire.specs.Fields.{bytes16};
-ghost use Rattle.dimacs.specs.Lists.{forEach};
 ghost use Rattle.output.specs.Output.{Wrote, mostText};
-ghost use Rattle.graph_sheet.specs.Rows.{full};
+ghost use Rattle.wire_put.specs.Puts.{full, fulls};
 use output::put_byte;
 
 // Puts a number of 16 bits.
-fn put_half(out: &mut [u8], at: usize, x: usize) -> usize
+pub fn put_half(out: &mut [u8], at: usize, x: usize) -> usize
     requires { ⌜ (x < 65536) × (at + 2 ≤ mostText) ⌝ }
     ensures { λ r. ⌜ Wrote (bytes16 x) (now (out .entry)) at (now (out .exit)) r ⌝ }
 {
-    let second = put_byte(out, at, (x % 256) as u8);
-    put_byte(out, second, (x / 256) as u8)
+    let high = put_byte(out, at, (x % 256) as u8);
+    put_byte(out, high, (x / 256) as u8)
 }
 
 // Puts two numbers of 16 bits.
@@ -40,7 +41,7 @@ pub fn put_full(out: &mut [u8], at: usize, x: u32) -> usize
 // Puts numbers of 32 bits.
 pub fn put_fulls(out: &mut [u8], at: usize, xs: &[u32]) -> usize
     requires { ⌜ at + 4 * length (now xs) ≤ mostText ⌝ }
-    ensures { λ r. ⌜ Wrote (forEach full (now (xs .entry))) (now (out .entry)) at (now (out .exit)) r ⌝ }
+    ensures { λ r. ⌜ Wrote (fulls (now (xs .entry))) (now (out .entry)) at (now (out .exit)) r ⌝ }
 {
     let mut end = at;
     let mut i = 0;
