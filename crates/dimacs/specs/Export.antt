@@ -1,6 +1,5 @@
 -- The export of a sheet: "DIMACS graph text: `p edge n m`, then `e u v` lines, vertices 1 to n. A second text holds the
--- number of frequencies
--- of each link, one a line." It speaks of the sheet's graph alone.
+-- number of frequencies of each link, one a line." It speaks of the sheet's graph alone.
 use mathlib.Core.Bool.{Bool, true, false, _&&_}
 use mathlib.Core.List.{List, _++_}
 use Prim.Native.Nat.{ℕ, _+_, _*_, _/_, _%_}
@@ -17,8 +16,7 @@ use Rattle.output.specs.Output.{padded}
 use Rattle.lines.specs.Lines.{ascii, decimal, line}
 use Rattle.dimacs.specs.Lists.{select, forEach}
 
--- of n vertices, the pair of u and v has the code u * n + v, so that codes rise as pairs do, "by (u, v)": an edge with
--- u < v
+-- of n vertices, the pair of u and v has the code u * n + v, so that codes rise as pairs do: the code of an edge, u < v
 unfoldable pub isEdge : ℕ → (ℕ → ℕ → Bool) → ℕ → Bool
 isEdge n adj z = ltb (z / n) (z % n) && adj (z / n) (z % n)
 
@@ -32,8 +30,8 @@ edgeText n z = line (ascii "e " ++ decimal (z / n + 1)) (z % n + 1)
 
 -- "`p edge n m`, then `e u v` lines"
 unfoldable pub graphText : ℕ → (ℕ → ℕ → Bool) → List ℕ
-graphText n adj = line (ascii "p edge " ++ decimal n) (length (edgeCodes n adj)) ++ forEach (edgeText n)
-    (edgeCodes n adj)
+graphText n adj =
+    line (ascii "p edge " ++ decimal n) (length (edgeCodes n adj)) ++ forEach (edgeText n) (edgeCodes n adj)
 
 -- "the number of frequencies of each link, one a line"
 unfoldable pub countText : ℕ → List ℕ
@@ -54,8 +52,9 @@ countsTextOf s = countsText (countsOf s)
 
 -- causes 1 to 8, and 15 "a lent output too short", for outputs of g and c bytes
 unfoldable pub exportCause : List ℕ → ℕ → ℕ → ℕ
-exportCause s g c = passing (eqb (refusal s) 0) (refusal s) λ _. unless
-    (leb (length (graphTextOf s)) g && leb (length (countsTextOf s)) c) 15
+exportCause s g c =
+    passing (eqb (refusal s) 0) (refusal s) λ _.
+    unless (leb (length (graphTextOf s)) g && leb (length (countsTextOf s)) c) 15
 
 -- what the call gives: 0 or the cause, both lengths, and every byte of both outputs
 pub record ExportOutcome : Type 0 where

@@ -50,7 +50,10 @@ pub record ImportOutcome : Type 0 where
 
 unfoldable pub imported : List ℕ → List ℕ → ℕ → ImportOutcome
 imported text counts room = elim (eqb (importCause text counts room) 0) [
-  | true ↦ record
-      { answer = 0; length = length (importedSheet text counts); sheet = padded (importedSheet text counts) room }
+  | true ↦ record {
+    answer = 0;
+    length = length (importedSheet text counts);
+    sheet = padded (importedSheet text counts) room;
+  }
   | false ↦ record { answer = importCause text counts room; length = 0; sheet = zeros room }
 ]

@@ -19,8 +19,8 @@ joined n E u v = (ltb u n && ltb v n) && (E (u * n + v) || E (v * n + u))
 unfoldable pub header : ℕ → ℕ → ℕ → ℕ → List ℕ
 header k n q t =
     bytes32 1 ++ bytes32 k ++ bytes32 n ++ bytes32 q ++ bytes32 t ++
-    bytes32 headerBytes ++ bytes32 (freqsAt k) ++ bytes32 (rulesAt k n) ++ bytes32 (pairsAt k n q) ++ bytes32
-    (endAt k n q t)
+    bytes32 headerBytes ++ bytes32 (freqsAt k) ++ bytes32 (rulesAt k n) ++ bytes32 (pairsAt k n q) ++
+    bytes32 (endAt k n q t)
 
 -- "Link row: 16-bit first frequency, 16-bit count"
 unfoldable pub linkRowOf : List ℕ → ℕ → List ℕ

@@ -22,7 +22,7 @@ use Rattle.dimacs.specs.Export.{isEdge, edgeCodes, edgeText, graphText, countTe
 use Rattle.dimacs.proofs.Lists.{each-append, select-skip}
 use Rattle.dimacs.proofs.Codes.{code-first, code-second}
 use Rattle.graph_export.specs.Gives.{mostGraph}
-use Rattle.graph_export.specs.Rows.{rowWords, RowsHold, codesTo, linesTo, EdgesCounted, LinesPut, Puts}
+use Rattle.graph_export.specs.Rows.{rowWords, RowsHold, edgeCodesTo, linesTo, EdgesCounted, LinesPut, Puts}
 
 -- of at most 512 vertices
 pub square-few : (n : ℕ) → n ≤ 512 → n * n ≤ 262144
@@ -68,7 +68,7 @@ module _ (n : ℕ) (adj : ℕ → ℕ → Bool) (u : ℕ) where
   edge-at v h = rw (code-first n u v h, code-second n u v h)
 
   no-edges : (a b : ℕ) → a ≤ b → b ≤ n → ((v : ℕ) → a ≤ v → v < b → (ltb u v && adj u v) ≡ false)
-      → codesTo n adj (u * n + b) ≡ codesTo n adj (u * n + a)
+      → edgeCodesTo n adj (u * n + b) ≡ edgeCodesTo n adj (u * n + a)
   no-edges a b l m h =
       let e : u * n + b ≡ (u * n + a) + (b - a) = omega arith in
       rw e (select-skip (u * n + a) (b - a) (isEdge n adj) (λ z lo hi.
@@ -83,15 +83,15 @@ module _ (n : ℕ) (adj : ℕ → ℕ → Bool) (u : ℕ) where
   no-other v e = and-false (ltb u v) (adj u v) e
 
   -- up to the first neighbour above u there is no edge
-  codes-start : (v : ℕ) → u < n → Least (adj u) (u + 1) n v → codesTo n adj (u * n + v) ≡ codesTo n adj (u * n)
+  codes-start : (v : ℕ) → u < n → Least (adj u) (u + 1) n v → edgeCodesTo n adj (u * n + v) ≡ edgeCodesTo n adj (u * n)
   codes-start v h L =
       let e : u * n + 0 ≡ u * n = omega arith in
       no-edges (u + 1) v (L .after) (L .within) (λ x lo hi. no-other x (L .none x lo hi))
       ∙ no-edges 0 (u + 1) (omega arith) (omega arith) (λ x lo hi. no-lower x (omega arith))
-      ∙ ap (codesTo n adj) e
+      ∙ ap (edgeCodesTo n adj) e
 
   codes-edge : (v : ℕ) → u < v → v < n → adj u v ≡ true
-      → codesTo n adj (u * n + (v + 1)) ≡ codesTo n adj (u * n + v) ++ ((u * n + v) ∷ [])
+      → edgeCodesTo n adj (u * n + (v + 1)) ≡ edgeCodesTo n adj (u * n + v) ++ ((u * n + v) ∷ [])
   unfolding select
   codes-edge v l h t =
       let e : u * n + (v + 1) ≡ suc (u * n + v) = omega arith in
@@ -100,7 +100,7 @@ module _ (n : ℕ) (adj : ℕ → ℕ → Bool) (u : ℕ) where
 
   -- from one neighbour up to the next there is one edge
   codes-more : (v w : ℕ) → u < v → v < n → adj u v ≡ true → Least (adj u) (v + 1) n w
-      → codesTo n adj (u * n + w) ≡ codesTo n adj (u * n + v) ++ ((u * n + v) ∷ [])
+      → edgeCodesTo n adj (u * n + w) ≡ edgeCodesTo n adj (u * n + v) ++ ((u * n + v) ∷ [])
   codes-more v w l h t L =
       no-edges (v + 1) w (L .after) (L .within) (λ x lo hi. no-other x (L .none x lo hi)) ∙ codes-edge v l h t
 
@@ -135,7 +135,7 @@ module _ {n u : ℕ} {p : List ℕ} (h : u < n) where
     answer = λ adj H.
         let x = E .answer adj H in
         let e = ap length (codes-more n adj u v w (A .above) l (found-of adj H A l) (least-of adj H L)) in
-        let s = length-append (codesTo n adj (u * n + v)) ((u * n + v) ∷ []) in
+        let s = length-append (edgeCodesTo n adj (u * n + v)) ((u * n + v) ∷ []) in
         omega arith;
   }
 
@@ -161,7 +161,7 @@ module _ {n u : ℕ} {p : List ℕ} (h : u < n) where
         let s = codes-more n adj u v w (A .above) l (found-of adj H A l) (least-of adj H L) in
         let x : line (ascii "e " ++ decimal (u + 1)) (v + 1) ≡ edgeText n z =
         sym (rw (code-first n u v l, code-second n u v l) refl) in
-        let y = ap (forEach (edgeText n)) s ∙ each-append (edgeText n) (codesTo n adj z) (z ∷ [])
+        let y = ap (forEach (edgeText n)) s ∙ each-append (edgeText n) (edgeCodesTo n adj z) (z ∷ [])
         ∙ ap (λ i. linesTo n adj z ++ i) (append-nil (edgeText n z)) in
         wrote-same (sym y) (wrote-then (P .wrote adj H b from X) (wrote-same x W));
   }
@@ -207,7 +207,7 @@ unfolding graphText edgeCodes select forEach
 graph-put {n} {m} {at} {r} {p} {o} {q} {u} h c w l x = record {
   few = omega (arith, x .few, square-few n h);
   wrote = λ adj H.
-      let m-is : m ≡ length (codesTo n adj (n * n)) = omega (arith, c .answer adj H) in
+      let m-is : m ≡ length (edgeCodesTo n adj (n * n)) = omega (arith, c .answer adj H) in
       wrote-then (wrote-same (ap (line (ascii "p edge " ++ decimal n)) m-is) w)
       (x .wrote adj H q at (wrote-none q at));
 }

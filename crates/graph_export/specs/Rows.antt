@@ -24,15 +24,15 @@ pub record RowsIn (n len : ℕ) : Type 0 where
   pub inside : n * rowWords ≤ len
 
 -- the edges before code z, and their lines
-abbrev pub codesTo : ℕ → (ℕ → ℕ → Bool) → ℕ → List ℕ
-codesTo n adj z = select z (isEdge n adj)
+abbrev pub edgeCodesTo : ℕ → (ℕ → ℕ → Bool) → ℕ → List ℕ
+edgeCodesTo n adj z = select z (isEdge n adj)
 
 abbrev pub linesTo : ℕ → (ℕ → ℕ → Bool) → ℕ → List ℕ
-linesTo n adj z = forEach (edgeText n) (codesTo n adj z)
+linesTo n adj z = forEach (edgeText n) (edgeCodesTo n adj z)
 
 -- r is the number of edges from code a up to code b
 pub record EdgesCounted (n a b : ℕ) (p : List ℕ) (r : ℕ) : Type 0 where
-  pub answer : (adj : ℕ → ℕ → Bool) → RowsHold adj n p → length (codesTo n adj a) + r ≡ length (codesTo n adj b)
+  pub answer : (adj : ℕ → ℕ → Bool) → RowsHold adj n p → length (edgeCodesTo n adj a) + r ≡ length (edgeCodesTo n adj b)
 
 -- the lines of the edges from code a up to code b were put at `at`, behind those before a, with at most `most` bytes
 pub record LinesPut (n a b most : ℕ) (p before : List ℕ) (at : ℕ) (after : List ℕ) (r : ℕ) : Type 0 where
