@@ -42,7 +42,6 @@ pub record LinesPut (n a b most : ℕ) (p before : List ℕ) (at : ℕ) (after :
       → Wrote (linesTo n adj a) o from before at → Wrote (linesTo n adj b) o from after r
 
 -- a text of the graph was put, of at most `most` bytes
-pub record Puts (text : (ℕ → ℕ → Bool) → List ℕ) (n most : ℕ) (p before : List ℕ) (after : List ℕ) (r : ℕ) : Type 0
-  where
-    pub few : r ≤ most
-    pub wrote : (adj : ℕ → ℕ → Bool) → RowsHold adj n p → Wrote (text adj) before 0 after r
+pub record Puts (text : (ℕ → ℕ → Bool) → List ℕ) (n most : ℕ) (p before after : List ℕ) (r : ℕ) : Type 0 where
+  pub few : r ≤ most
+  pub wrote : (adj : ℕ → ℕ → Bool) → RowsHold adj n p → Wrote (text adj) before 0 after r
