@@ -1,7 +1,6 @@
 // A job's sheet exported, and the two texts imported again.
 ghost use mathlib.Core.Path.{_≡_};
 ghost use lib.ListN.{length};
-use crate::runs::runs_agree;
 use trial_job::make_job;
 use trial_parts::SKIP;
 use trial_parts::encode;
@@ -23,6 +22,7 @@ use trial_texts_parts::put_count_text;
 use trial_texts_parts::put_graph_text;
 use trial_texts_parts::put_head;
 use trial_texts_parts::put_joined;
+use trial_texts_runs::runs_agree;
 
 // The places of the edges and of the import's number that a row names.
 const EDGES: usize = 17;

@@ -1,4 +1,6 @@
-// Planning calls on two sheets of one graph.
+// Planning calls of the test program of the texts, on two sheets of one graph. A difference is printed.
+ghost use mathlib.Core.Path.{_≡_};
+ghost use lib.ListN.{length};
 use setting::Options;
 use trial_parts::either;
 use trial_parts::get;
@@ -41,7 +43,9 @@ fn setting_of(p: usize) -> Options {
 }
 
 // Whether a sheet is accepted by the planner.
-pub fn is_accepted(kept: &mut [usize], sheet: &[u8]) -> bool {
+pub fn is_accepted(kept: &mut [usize], sheet: &[u8]) -> bool
+    ensures { λ _. ⌜ length (now (kept .exit)) ≡ length (now (kept .entry)) ⌝ }
+{
     let number = run(kept, sheet, setting_of(7));
     if 100 <= number {
         return true;
@@ -65,7 +69,9 @@ fn agree_under(kept: &mut [usize], one: &[u8], other: &[u8], p: usize) -> bool {
 }
 
 // Whether the runs of two sheets agree under every setting.
-pub fn runs_agree(kept: &mut [usize], one: &[u8], other: &[u8]) -> bool {
+pub fn runs_agree(kept: &mut [usize], one: &[u8], other: &[u8]) -> bool
+    ensures { λ _. ⌜ length (now (kept .exit)) ≡ length (now (kept .entry)) ⌝ }
+{
     let mut p = 0;
     while p < 32 {
         if !agree_under(kept, one, other, p) {
