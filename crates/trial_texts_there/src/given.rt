@@ -2,9 +2,9 @@
 ghost use mathlib.Core.Path.{_≡_};
 ghost use lib.ListN.{length};
 use trial_parts::first_bytes;
+use trial_texts_back::is_accepted;
 use trial_texts_calls::imported_length;
 use trial_texts_calls::imports;
-use trial_texts_runs::is_accepted;
 
 // Whether texts that are taken give a sheet that the planner accepts.
 fn takes(kept: &mut [usize], text: &[u8], sizes: &[u8], sheet: &mut [u8]) -> bool {

@@ -6,28 +6,21 @@ use trial_parts::SKIP;
 use trial_parts::encode;
 use trial_parts::first_bytes;
 use trial_parts::get;
-use trial_parts::kept::INPUT;
 use trial_parts::kept::N;
 use trial_parts::kept::SEED;
-use trial_parts::kept::T;
 use trial_parts::put;
-use trial_texts_calls::exports;
+use trial_texts_back::CAUSE;
+use trial_texts_back::comes_back;
 use trial_texts_calls::exports_all;
-use trial_texts_calls::imports;
-use trial_texts_calls::imports_all;
 use trial_texts_calls::is_same;
 use trial_texts_parts::first_difference;
-use trial_texts_parts::put_back;
 use trial_texts_parts::put_count_text;
 use trial_texts_parts::put_graph_text;
 use trial_texts_parts::put_head;
 use trial_texts_parts::put_joined;
-use trial_texts_runs::runs_agree;
 
-// The places of the edges and of the import's number that a row names.
+// The place of the edges that a row names.
 const EDGES: usize = 17;
-
-const CAUSE: usize = 18;
 
 // Whether the graph text begins with the number of edges that the row names, if any.
 fn has_edges(kept: &[usize], text: &[u8]) -> bool {
@@ -39,76 +32,6 @@ fn has_edges(kept: &[usize], text: &[u8]) -> bool {
     let length = put_head(&mut head, get(kept, N), m);
     let at = first_difference(first_bytes(text, length), &head);
     is_same(b"place of another digit in the number of edges", at, length)
-}
-
-// Whether the number that the graph's pairs ask of an import is the one that the row names, if any.
-fn has_cause(kept: &[usize], number: usize) -> bool {
-    let wanted = get(kept, CAUSE);
-    if wanted == SKIP {
-        return true;
-    }
-    is_same(b"number that the pairs ask of the import", number, wanted)
-}
-
-// Whether the texts give back a sheet, the same texts again, and the same runs.
-fn returns(
-    kept: &mut [usize],
-    sheet: &[u8],
-    text: &[u8],
-    sizes: &[u8],
-    graph: &mut [u8],
-    counts: &mut [u8],
-    back: &[u8],
-) -> bool {
-    let mut again = [0u8; 60000];
-    if !imports_all(kept, text, sizes, &mut again, back) {
-        return false;
-    }
-    let imported = first_bytes(&again, back.len());
-    if !exports(kept, imported, graph, counts, 0, text, sizes) {
-        return false;
-    }
-    runs_agree(kept, sheet, imported)
-}
-
-// Texts of more pairs than a sheet holds.
-fn is_too_many(kept: &mut [usize], text: &[u8], sizes: &[u8]) -> bool {
-    let mut again = [0u8; 60000];
-    if !has_cause(kept, 15) {
-        return false;
-    }
-    imports(kept, text, sizes, &mut again, 15, b"")
-}
-
-// The way back, by the sheet that the graph asks for.
-fn comes_back(
-    kept: &mut [usize],
-    sheet: &[u8],
-    table: &[u8],
-    text: &[u8],
-    sizes: &[u8],
-    graph: &mut [u8],
-    counts: &mut [u8],
-) -> bool {
-    let mut job = [0usize; INPUT];
-    let mut back = [0u8; 60000];
-    put_back(kept, table, &mut job);
-    if 8192 < get(&job, T) {
-        return is_too_many(kept, text, sizes);
-    }
-    if !has_cause(kept, 0) {
-        return false;
-    }
-    let length = encode(&job, &mut back);
-    returns(
-        kept,
-        sheet,
-        text,
-        sizes,
-        graph,
-        counts,
-        first_bytes(&back, length),
-    )
 }
 
 // There by the texts of the job's graph, and back.

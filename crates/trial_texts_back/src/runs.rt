@@ -1,4 +1,4 @@
-// Planning calls of the test program of the texts, on two sheets of one graph. A difference is printed.
+// Planning calls on two sheets of one graph.
 ghost use mathlib.Core.Path.{_≡_};
 ghost use lib.ListN.{length};
 use setting::Options;

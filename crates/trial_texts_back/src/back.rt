@@ -1,0 +1,90 @@
+// The two texts imported again, by the sheet that the graph asks for.
+ghost use mathlib.Core.Path.{_≡_};
+ghost use lib.ListN.{length};
+use crate::runs::runs_agree;
+use trial_parts::SKIP;
+use trial_parts::encode;
+use trial_parts::first_bytes;
+use trial_parts::get;
+use trial_parts::kept::INPUT;
+use trial_parts::kept::T;
+use trial_texts_calls::exports;
+use trial_texts_calls::imports;
+use trial_texts_calls::imports_all;
+use trial_texts_calls::is_same;
+use trial_texts_parts::put_back;
+
+// The place of the import's number that a row names.
+pub const CAUSE: usize = 18;
+
+// Whether the number that the graph's pairs ask of an import is the one that the row names, if any.
+fn has_cause(kept: &[usize], number: usize) -> bool {
+    let wanted = get(kept, CAUSE);
+    if wanted == SKIP {
+        return true;
+    }
+    is_same(b"number that the pairs ask of the import", number, wanted)
+}
+
+// Whether the texts give back a sheet, the same texts again, and the same runs.
+fn returns(
+    kept: &mut [usize],
+    sheet: &[u8],
+    text: &[u8],
+    sizes: &[u8],
+    graph: &mut [u8],
+    counts: &mut [u8],
+    back: &[u8],
+) -> bool {
+    let mut again = [0u8; 60000];
+    if !imports_all(kept, text, sizes, &mut again, back) {
+        return false;
+    }
+    let imported = first_bytes(&again, back.len());
+    if !exports(kept, imported, graph, counts, 0, text, sizes) {
+        return false;
+    }
+    runs_agree(kept, sheet, imported)
+}
+
+// Texts of more pairs than a sheet holds.
+fn is_too_many(kept: &mut [usize], text: &[u8], sizes: &[u8]) -> bool {
+    let mut again = [0u8; 60000];
+    if !has_cause(kept, 15) {
+        return false;
+    }
+    imports(kept, text, sizes, &mut again, 15, b"")
+}
+
+// The way back, by the sheet that the graph asks for.
+pub fn comes_back(
+    kept: &mut [usize],
+    sheet: &[u8],
+    table: &[u8],
+    text: &[u8],
+    sizes: &[u8],
+    graph: &mut [u8],
+    counts: &mut [u8],
+) -> bool
+    ensures { λ _. ⌜ length (now (kept .exit)) ≡ length (now (kept .entry)) ⌝ }
+{
+    let mut job = [0usize; INPUT];
+    let mut back = [0u8; 60000];
+    put_back(kept, table, &mut job);
+    if 8192 < get(&job, T) {
+        return is_too_many(kept, text, sizes);
+    }
+    if !has_cause(kept, 0) {
+        return false;
+    }
+    let length = encode(&job, &mut back);
+    returns(
+        kept,
+        sheet,
+        text,
+        sizes,
+        graph,
+        counts,
+        first_bytes(&back, length),
+    )
+}
