@@ -10,7 +10,7 @@ use Rattle.dimacs.specs.Export.{graphTextOf, countsTextOf}
 use Rattle.dimacs.specs.Import.{importCause, importedSheet}
 use Rattle.cases.specs.Cases.{sameList}
 
--- a graph text and a counts text with import's answer for an output of so many bytes; and texts whose sheet is accepted
+-- a graph text and a count text with import's answer for an output of so many bytes; and texts whose sheet is accepted
 -- and has just these texts
 pub data TextCase : Type 0 where
   imports : String → String → ℕ → ℕ → TextCase

@@ -5,7 +5,7 @@ use Prim.Native.Nat.{ℕ, _+_, _*_, _^_}
 use Rattle.dimacs.specs.Export.{ExportOutcome}
 use Rattle.dimacs.specs.Import.{ImportOutcome}
 
--- the length of the graph text, plus 2^32 times that of the counts text, plus 2^48 times the cause, which is 0 where
+-- the length of the graph text, plus 2^32 times that of the count text, plus 2^48 times the cause, which is 0 where
 -- both are written
 unfoldable pub exportWord : ExportOutcome → ℕ
 exportWord o = o .graphLength + 2 ^ 32 * o .countsLength + 2 ^ 48 * o .answer

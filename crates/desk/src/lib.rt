@@ -44,7 +44,7 @@ fn imported_number(i: Imported) -> u64
     i.length as u64 + 4294967296 * cause
 }
 
-// Writes the sheet of a graph text and a counts text.
+// Writes the sheet of a graph text and a count text.
 #[no_mangle]
 pub extern "C" fn guvtemi_import(graph: &[u8], counts: &[u8], sheet: &mut [u8]) -> u64
     ensures { λ r. ⌜ ImportHanded (imported (now (graph .entry)) (now (counts .entry)) (length (now (sheet .entry))))

@@ -11,7 +11,7 @@ use Rattle.sets.proofs.Tests.{bool}
 use Rattle.sheet.specs.Refusal.{refusal, passing, unless}
 use Rattle.output.specs.Output.{padded}
 use Rattle.dimacs.specs.Export.{graphTextOf, countsTextOf, exportCause, ExportOutcome, exported}
-use Rattle.dimacs.specs.Import.{importCause, importedSheet, ImportOutcome, imported}
+use Rattle.dimacs.specs.Import.{importCause, importedSheet, ImportOutcome, importOf, imported}
 use Rattle.dimacs.specs.RoundTrip.{graphSent, countsSent, sheetMade}
 use Rattle.dimacs.proofs.Choices.{yes-is, no-is}
 
@@ -55,7 +55,7 @@ pub record Received (text counts : List ℕ) (room : ℕ) : Type 0 where
   pub sheet : sheetMade (imported text counts room) ≡ importedSheet text counts
 
 pub received : (text counts : List ℕ) (room : ℕ) → imported text counts room .answer ≡ 0 → Received text counts room
-unfolding imported
+unfolding imported importOf importCause importedSheet
 received text counts room e = bool (eqb (importCause text counts room) 0) yes no
   where
     yes : eqb (importCause text counts room) 0 ≡ true → Received text counts room

@@ -1,4 +1,4 @@
--- The import of a graph text and a counts text.
+-- The import of a graph text and a count text.
 use mathlib.Core.Bool.{Bool, true, false, _&&_}
 use mathlib.Core.List.{List, []}
 use Prim.Native.Nat.{ℕ, _*_}
@@ -48,12 +48,12 @@ pub record ImportOutcome : Type 0 where
   pub length : ℕ
   pub sheet : List ℕ
 
-unfoldable pub imported : List ℕ → List ℕ → ℕ → ImportOutcome
-imported text counts room = elim (eqb (importCause text counts room) 0) [
-  | true ↦ record {
-    answer = 0;
-    length = length (importedSheet text counts);
-    sheet = padded (importedSheet text counts) room;
-  }
-  | false ↦ record { answer = importCause text counts room; length = 0; sheet = zeros room }
+-- of what was read, in an output of so many bytes
+unfoldable pub importOf : Texts → ℕ → ImportOutcome
+importOf w room = elim (eqb (textsCause w room) 0) [
+  | true ↦ record { answer = 0; length = length (sheetBy w); sheet = padded (sheetBy w) room }
+  | false ↦ record { answer = textsCause w room; length = 0; sheet = zeros room }
 ]
+
+unfoldable pub imported : List ℕ → List ℕ → ℕ → ImportOutcome
+imported text counts room = importOf (textsOf text counts) room

@@ -51,7 +51,7 @@ space = 32
 abbrev pub newline : ℕ
 newline = 10
 
--- the counts text
+-- the count text
 
 abbrev pub countOf : List ℕ → ℕ → ℕ
 countOf cs l = getD cs l 0
@@ -165,6 +165,6 @@ unfoldable pub textsBy : List ℕ → CountList → Texts
 textsBy text noCounts = malformed
 textsBy text (counts cs) = elim (ltb 0 (length cs)) [ true ↦ textsOver cs (edgesOf cs text) | false ↦ malformed ]
 
--- a graph text and a counts text
+-- a graph text and a count text
 unfoldable pub textsOf : List ℕ → List ℕ → Texts
 textsOf text countsText = textsBy text (countsFrom (length countsText + 1) [] countsText)

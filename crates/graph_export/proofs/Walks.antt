@@ -212,7 +212,7 @@ graph-put {n} {m} {at} {r} {p} {o} {q} {u} h c w l x = record {
       (x .wrote adj H q at (wrote-none q at));
 }
 
--- the counts text
+-- the count text
 pub count-put : (c : ℕ) {at e r : ℕ} {o p q : List ℕ} → Wrote (decimal c) o at p e → Wrote (10 ∷ []) p e q r
     → Wrote (countText c) o at q r
 unfolding countText ascii

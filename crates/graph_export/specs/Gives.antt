@@ -18,7 +18,7 @@ exportNumber Written = 0
 exportNumber (BadSheet cause) = causeNumber cause
 exportNumber Short = 15
 
--- no graph text and no counts text is longer
+-- no graph text and no count text is longer
 abbrev pub mostGraph : ℕ
 mostGraph = 10000000
 

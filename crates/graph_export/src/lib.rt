@@ -29,7 +29,7 @@ pub enum ExportAnswer {
     Short,
 }
 
-// The lengths of the graph text and of the counts text.
+// The lengths of the graph text and of the count text.
 struct Lengths {
     pub graph: usize,
     pub counts: usize,

@@ -87,7 +87,7 @@ fn put_count(out: &mut [u8], at: usize, count: u32) -> usize
     put_byte(out, end, b'\n')
 }
 
-// Puts the counts text: the counts of k link rows.
+// Puts the count text: the counts of k link rows.
 pub fn put_counts(out: &mut [u8], ls: &[u8], k: usize) -> usize
     requires { ⌜ (4 * k ≤ length (now ls)) × (k ≤ 64) ⌝ }
     ensures { λ r. ⌜ Wrote (countsText (tabulate k (linkCount (now (ls .entry)))))

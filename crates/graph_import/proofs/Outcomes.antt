@@ -17,8 +17,8 @@ use Rattle.output.specs.Output.{Wrote}
 use Rattle.output.proofs.Wrote.{wrote-padded}
 use Rattle.dimacs.specs.Reading.{verticesOf, Texts, malformed, clashed, texts, textsOf}
 use Rattle.dimacs.specs.Made.{joined, pairTotal, sheetOf}
-use Rattle.dimacs.specs.Import.{textGraph, sheetBytes, sheetFits, textsCause, importCause, sheetBy, importedSheet}
-use Rattle.dimacs.specs.Import.{imported}
+use Rattle.dimacs.specs.Import.{textGraph, sheetBytes, sheetFits, textsCause, sheetBy}
+use Rattle.dimacs.specs.Import.{importOf, imported}
 use Rattle.dimacs.proofs.Choices.{yes-is, no-is}
 use Rattle.dimacs.proofs.Fields.{sections}
 use Rattle.graph_read.specs.Graphs.{Links, TextsTold}
@@ -27,7 +27,7 @@ use Rattle.graph_read.proofs.Firsts.{all-first}
 use Rattle.graph_sheet.specs.Pairs.{GraphIn, TotalsOf, countsIn, adjacentIn}
 use Rattle.graph_sheet.specs.declared.joins.Sizes.{Sizes}
 use Rattle.graph_sheet.specs.declared.joins.Totals.{Totals}
-use Rattle.graph_import.specs.Gives.{importNumber, mostSheet, importOf, ImportGives}
+use Rattle.graph_import.specs.Gives.{importNumber, mostSheet, ImportGives}
 use Rattle.graph_import.specs.declared.ImportAnswer.{ImportAnswer}
 use Rattle.graph_import.specs.declared.ImportAnswer.the-variants.{Written, Malformed, Clashing, Short}
 use Rattle.graph_import.specs.declared.Imported.{Imported}
@@ -35,7 +35,7 @@ use Rattle.graph_import.specs.declared.Imported.{Imported}
 -- the outcome by what was read
 pub outcome-is : (text sizes : List ℕ) (room : ℕ) (w : Texts) → textsOf text sizes ≡ w
     → imported text sizes room ≡ importOf w room
-unfolding imported importCause importedSheet importOf
+unfolding imported
 outcome-is text sizes room w e = ap (λ x. importOf x room) e
 
 -- a refusal: its number, no length and zeros

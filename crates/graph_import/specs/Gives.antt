@@ -1,14 +1,8 @@
 -- What the import call answers, in the paper's numbers.
 use mathlib.Core.Path.{_≡_}
-use mathlib.Core.Bool.{true, false}
 use mathlib.Core.List.{List}
 use Prim.Native.Nat.{ℕ, _≤_}
-use lib.Dec.{eqb}
-use lib.ListN.{length}
-use Rattle.zeros.specs.Zeros.{zeros}
-use Rattle.output.specs.Output.{padded}
-use Rattle.dimacs.specs.Reading.{Texts}
-use Rattle.dimacs.specs.Import.{ImportOutcome, textsCause, sheetBy}
+use Rattle.dimacs.specs.Import.{ImportOutcome}
 use Rattle.graph_import.specs.declared.ImportAnswer.{ImportAnswer}
 use Rattle.graph_import.specs.declared.ImportAnswer.the-variants.{Written, Malformed, Clashing, Short}
 use Rattle.graph_import.specs.declared.Imported.{Imported}
@@ -24,13 +18,6 @@ importNumber Short = 15
 -- no sheet is longer
 abbrev pub mostSheet : ℕ
 mostSheet = 100000
-
--- `imported`, of what was read
-unfoldable pub importOf : Texts → ℕ → ImportOutcome
-importOf w room = elim (eqb (textsCause w room) 0) [
-  | true ↦ record { answer = 0; length = length (sheetBy w); sheet = padded (sheetBy w) room }
-  | false ↦ record { answer = textsCause w room; length = 0; sheet = zeros room }
-]
 
 -- the answer r and the bytes that are left in the output are those of an outcome
 pub record ImportGives (o : ImportOutcome) (r : Imported) (s : List ℕ) : Type 0 where

@@ -1,4 +1,4 @@
-// Import of a graph text and a counts text from the solver benches: the sheet of the graph that they say.
+// Import of a graph text and a count text from the solver benches: the sheet of the graph that they say.
 // The contract cites `imported` of the crate `dimacs`, for every input.
 ghost use mathlib.Core.Path.{_≡_};
 ghost use Prim.Native.Nat.{_≤_};
@@ -7,9 +7,9 @@ ghost use Rattle.vset.specs.Words.{has};
 ghost use Rattle.sheet.specs.Sheet.{endAt};
 ghost use Rattle.zeros.specs.Zeros.{zeros};
 ghost use Rattle.dimacs.specs.Reading.{texts};
-ghost use Rattle.dimacs.specs.Import.{imported};
+ghost use Rattle.dimacs.specs.Import.{importOf, imported};
 ghost use Rattle.graph_sheet.specs.Pairs.{GraphIn, countsIn};
-ghost use Rattle.graph_import.specs.Gives.{importNumber, importOf, ImportGives};
+ghost use Rattle.graph_import.specs.Gives.{importNumber, ImportGives};
 use graph_read::TextsRead;
 use graph_read::read_texts;
 use graph_sheet::Sizes;

@@ -1,4 +1,4 @@
--- The counts text, read line by line.
+-- The count text, read line by line.
 use mathlib.Core.Path.{_≡_, refl, sym, ap, subst, _∙_}
 use mathlib.Core.Bool.{Bool, true, false}
 use mathlib.Core.List.{List, [], _∷_, _++_}

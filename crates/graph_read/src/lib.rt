@@ -1,4 +1,4 @@
-// Reading a graph text and a counts text from the solver benches.
+// Reading a graph text and a count text from the solver benches.
 // The contracts cite `Reading` of the crate `dimacs`, through specs/Read.antt (numbers and counts) and
 // specs/Graphs.antt (edges).
 mod edges;
@@ -16,7 +16,7 @@ use edges::EdgesRead;
 pub use edges::is_joined;
 use edges::read_graph;
 use links::fill_layers;
-pub use links::first_of;
+use links::first_of;
 
 // A number that was read: its value, as far as it can matter, and the place after it.
 pub struct Digits {

@@ -8,11 +8,11 @@ use lib.ListN.{length, getD, set, length-set}
 use lib.Seq.{getD-set-same, getD-set-other}
 use borrow.Author.Tests.{lt-ltb}
 use Rattle.sets.proofs.Tests.{bool, below, clash}
-use Rattle.graph_sheet.specs.Pairs.{RuleTold, Tally}
+use Rattle.graph_sheet.specs.Pairs.{RuleTold}
 use Rattle.graph_sheet.specs.Marks.{ruleIn, MarkedTo, RulesKept, FewPairs}
 use Rattle.graph_sheet.specs.declared.joins.RuleAt.{RuleAt}
 use Rattle.graph_sheet.specs.declared.joins.Totals.{Totals}
-use Rattle.graph_sheet.proofs.Ruling.{tally-all}
+use Rattle.graph_sheet.proofs.Ruling.{Tally, tally-all}
 
 pub mark-zero : (m : ℕ) → m ≡ 0 → record { ruled = false; pairs = 0 } ≡ ruleIn m
 unfolding ruleIn

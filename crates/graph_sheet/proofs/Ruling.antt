@@ -18,9 +18,16 @@ use Rattle.dimacs.specs.Made.{pairsOf, isRuled, ruled, ruledA, ruledB, rulePair
 use Rattle.dimacs.specs.Made.{kindOf, valueOf, ruleRow, pairRow, rulePairRows}
 use Rattle.dimacs.proofs.Lists.{select-length, select-has, count-pass}
 use Rattle.graph_sheet.specs.Rows.{ruleRowBytes}
-use Rattle.graph_sheet.specs.Pairs.{RuleTold, Tallied, Tally, TotalsOf}
+use Rattle.graph_sheet.specs.Pairs.{RuleTold, Tallied, TotalsOf}
 use Rattle.graph_sheet.specs.declared.joins.RuleAt.{RuleAt}
 use Rattle.graph_sheet.specs.declared.joins.Totals.{Totals}
+
+-- t is the rules of the codes below z, and their pairs
+pub record Tally (cs : List ℕ) (adj : ℕ → ℕ → Bool) (z : ℕ) (t : Totals) : Type 0 where
+  pub rules : t .rules ≡ count z (isRuled cs adj)
+  pub pairs : t .pairs ≡ pairsBefore cs adj (count z (isRuled cs adj))
+  pub rules-few : t .rules ≤ z
+  pub pairs-few : t .pairs ≤ 262144 * z
 
 count-yes : (z : ℕ) (p : ℕ → Bool) → p z ≡ true → count (z + 1) p ≡ suc (count z p)
 unfolding count

@@ -18,11 +18,11 @@ use Rattle.dimacs.specs.Reading.{firstOf, verticesOf}
 use Rattle.dimacs.specs.Made.{header, linkRowOf, linkRows, freqRow, freqRows, ruleTotal, pairTotal, ruleRow, ruleRows}
 use Rattle.dimacs.specs.Made.{pairRows, sheetOf}
 use Rattle.graph_sheet.specs.Rows.{ruleRowBytes}
-use Rattle.graph_sheet.specs.Pairs.{RuleTold, Tally, TotalsOf}
+use Rattle.graph_sheet.specs.Pairs.{RuleTold, TotalsOf}
 use Rattle.graph_sheet.specs.declared.joins.RuleAt.{RuleAt}
 use Rattle.graph_sheet.specs.declared.joins.Totals.{Totals}
 use Rattle.graph_sheet.proofs.Ruling as Ruling
-use Rattle.graph_sheet.proofs.Ruling.{placeOf, total-is, row-is, pairs-within}
+use Rattle.graph_sheet.proofs.Ruling.{Tally, placeOf, total-is, row-is, pairs-within}
 
 pub header-put : (k n q t : ℕ) {o p : List ℕ} {at r : ℕ}
     → Wrote (fulls (1 ∷ k ∷ n ∷ q ∷ t ∷ 40 ∷ freqsAt k ∷ rulesAt k n ∷ pairsAt k n q ∷ endAt k n q t ∷ [])) o at p r

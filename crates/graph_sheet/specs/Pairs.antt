@@ -4,11 +4,10 @@ use mathlib.Core.Bool.{Bool, true, false}
 use mathlib.Core.List.{List}
 use Prim.Native.Nat.{ℕ, _+_, _*_, _/_, _%_, _≤_, _<_}
 use lib.ListN.{length, take, getD}
-use Rattle.sets.specs.Below.{count}
 use Rattle.vset.specs.Words.{has}
 use Rattle.dimacs.specs.Lists.{select}
 use Rattle.dimacs.specs.Reading.{countOf, firstOf}
-use Rattle.dimacs.specs.Made.{joined, pairsOf, isRuled, ruleTotal, pairTotal, pairsBefore}
+use Rattle.dimacs.specs.Made.{joined, pairsOf, isRuled, ruleTotal, pairTotal}
 use Rattle.graph_read.specs.Graphs.{Links}
 use Rattle.graph_sheet.specs.declared.joins.RuleAt.{RuleAt}
 use Rattle.graph_sheet.specs.declared.joins.Sizes.{Sizes}
@@ -77,13 +76,6 @@ pub record RuleTold (cs : List ℕ) (adj : ℕ → ℕ → Bool) (z : ℕ) (r : 
 pub record Tallied (t : Totals) (r : RuleAt) (u : Totals) : Type 0 where
   pub yes : r .ruled ≡ true → (u .rules ≡ t .rules + 1) × (u .pairs ≡ t .pairs + r .pairs)
   pub no : r .ruled ≡ false → (u .rules ≡ t .rules) × (u .pairs ≡ t .pairs)
-
--- t is the rules of the codes below z, and their pairs
-pub record Tally (cs : List ℕ) (adj : ℕ → ℕ → Bool) (z : ℕ) (t : Totals) : Type 0 where
-  pub rules : t .rules ≡ count z (isRuled cs adj)
-  pub pairs : t .pairs ≡ pairsBefore cs adj (count z (isRuled cs adj))
-  pub rules-few : t .rules ≤ z
-  pub pairs-few : t .pairs ≤ 262144 * z
 
 -- t is all rules, and all pairs
 pub record TotalsOf (cs : List ℕ) (adj : ℕ → ℕ → Bool) (t : Totals) : Type 0 where

@@ -4,10 +4,10 @@ use native.Mathlib.Omega.{arith}
 use mathlib.Core.Path.{_≡_}
 use Prim.Native.Nat.{_-_, _≤_}
 use lib.ListN.{length, length-set}
-use Rattle.graph_sheet.specs.Pairs.{countsIn, adjacentIn, Tally}
+use Rattle.graph_sheet.specs.Pairs.{countsIn, adjacentIn}
 use Rattle.graph_sheet.specs.Marks.{MarkedTo}
 use Rattle.graph_sheet.proofs.Pairing.{square-few, links-are, code-below}
-use Rattle.graph_sheet.proofs.Ruling.{tally-none, tally-more}
+use Rattle.graph_sheet.proofs.Ruling.{Tally, tally-none, tally-more}
 use Rattle.graph_sheet.proofs.Marking.{marked-none, marked-more, marked-all}
 use Rattle.graph_sheet.proofs.marks.mark_rules.Statement.{statement}
 use Rattle.graph_sheet.proofs.marks.mark_rules.Tie as tie

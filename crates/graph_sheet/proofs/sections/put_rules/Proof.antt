@@ -8,9 +8,8 @@ use native.Mathlib.Nat.{mul-le-mul}
 use Rattle.dimacs.specs.Lists.{joinTo}
 use Rattle.dimacs.specs.Made.{ruleRow}
 use Rattle.output.specs.Output.{Wrote}
-use Rattle.graph_sheet.specs.Pairs.{Tally}
 use Rattle.graph_sheet.specs.Marks.{FewPairs}
-use Rattle.graph_sheet.proofs.Ruling.{placeOf, rows-none, rows-more, rows-done, tally-none, tally-more}
+use Rattle.graph_sheet.proofs.Ruling.{Tally, placeOf, rows-none, rows-more, rows-done, tally-none, tally-more}
 use Rattle.graph_sheet.proofs.Marking.{below-square, few-told}
 use Rattle.graph_sheet.proofs.Writing.{rule-row-put, rule-small, rules-put}
 use Rattle.graph_sheet.proofs.sections.put_rules.Statement.{statement}
