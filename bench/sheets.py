@@ -79,6 +79,15 @@ def samples(quick=False):
     return found
 
 
+def building_samples(quick=False):
+    """The sheets on which building is measured: the first of each family, and two without a rule whose links share many frequencies."""
+    first = {}
+    for sample in samples(quick):
+        first.setdefault(sample.family, sample)
+    return [*first.values(), Sample("no rule", "64 × 8 of 40 frequencies", spaced(1, 64, 8, 1000, 0, 1)),
+            Sample("no rule", "2 × 256 of 400 frequencies", spaced(1, 2, 256, 10_000, 0, 1))]
+
+
 def apart(seed, links=64, frequencies=8):
     """Random lists in which no two links share a frequency."""
     rng = random.Random(seed)

@@ -1,5 +1,6 @@
 """Sheets in the words of other solvers, and one run of each: CaDiCaL, toulbar2, Gecode through MiniZinc."""
 
+import itertools
 import os
 import resource
 import shutil
@@ -7,7 +8,7 @@ import signal
 import subprocess
 from dataclasses import dataclass
 
-from jobsheet.binary import EXACT, LISTED, SPACING
+from jobsheet.binary import EXACT, LISTED, SPACING, Rule
 
 
 @dataclass
@@ -46,6 +47,21 @@ def allowed(sheet, rule):
     return lambda p, q: (p, q) in listed
 
 
+def unruled(sheet):
+    """Every two links without a rule that share a frequency: they have to differ."""
+    ruled = {(rule.a, rule.b) for rule in sheet.rules}
+    lists = [set(listed) for listed in sheet.links]
+    return [(a, b) for a, b in itertools.combinations(range(len(lists)), 2) if (a, b) not in ruled and lists[a] & lists[b]]
+
+
+def forbidden(sheet):
+    """(a, b, the pairs of positions that are not allowed) for each rule, and for links without one where they share a frequency."""
+    for rule in [*sheet.rules, *(Rule(a, b, SPACING, 1) for a, b in unruled(sheet))]:
+        test = allowed(sheet, rule)
+        every = itertools.product(range(len(sheet.links[rule.a])), range(len(sheet.links[rule.b])))
+        yield rule.a, rule.b, [(p, q) for p, q in every if not test(p, q)]
+
+
 class Cadical:
     """Direct encoding: a variable for each frequency of a link; one at least and one at most; a clause for each pair not allowed."""
     name, program = "CaDiCaL", "cadical"
@@ -57,10 +73,8 @@ class Cadical:
             clauses.append(list(numbers))
             clauses += [[-u, -v] for u in numbers for v in numbers if u < v]
             start.append(numbers.stop)
-        for rule in sheet.rules:
-            test = allowed(sheet, rule)
-            clauses += [[-(start[rule.a] + p), -(start[rule.b] + q)] for p in range(len(sheet.links[rule.a]))
-                        for q in range(len(sheet.links[rule.b])) if not test(p, q)]
+        for a, b, pairs in forbidden(sheet):
+            clauses += [[-(start[a] + p), -(start[b] + q)] for p, q in pairs]
         path = path.with_suffix(".cnf")
         with open(path, "w", encoding="ascii") as file:
             file.write(f"p cnf {start[-1] - 1} {len(clauses)}\n")
@@ -73,19 +87,17 @@ class Cadical:
 
 
 class Toulbar2:
-    """A variable for each link, a hard cost function for each rule, and an upper bound of 1: a solution costs 0."""
+    """A variable for each link, a hard cost function for each rule and for links that have to differ, an upper bound of 1: a solution costs 0."""
     name, program = "toulbar2", "toulbar2"
 
     def write(self, sheet, path):
-        sizes = [len(listed) for listed in sheet.links]
+        sizes, functions = [len(listed) for listed in sheet.links], list(forbidden(sheet))
         path = path.with_suffix(".wcsp")
         with open(path, "w", encoding="ascii") as file:
-            file.write(f"sheet {len(sizes)} {max(sizes)} {len(sheet.rules)} 1\n" + " ".join(map(str, sizes)) + "\n")
-            for rule in sheet.rules:
-                test = allowed(sheet, rule)
-                forbidden = [(p, q) for p in range(sizes[rule.a]) for q in range(sizes[rule.b]) if not test(p, q)]
-                file.write(f"2 {rule.a} {rule.b} 0 {len(forbidden)}\n")
-                file.writelines(f"{p} {q} 1\n" for p, q in forbidden)
+            file.write(f"sheet {len(sizes)} {max(sizes)} {len(functions)} 1\n" + " ".join(map(str, sizes)) + "\n")
+            for a, b, pairs in functions:
+                file.write(f"2 {a} {b} 0 {len(pairs)}\n")
+                file.writelines(f"{p} {q} 1\n" for p, q in pairs)
         return path
 
     def run(self, path, seconds):
@@ -112,6 +124,7 @@ class Gecode:
             else:
                 sign = ">=" if rule.kind == SPACING else "="
                 lines.append(f"constraint abs(f{rule.a} - f{rule.b}) {sign} {rule.value};")
+        lines += [f"constraint f{a} != f{b};" for a, b in unruled(sheet)]
         lines.append("solve satisfy;")
         model, flat = path.with_suffix(".mzn"), path.with_suffix(".fzn")
         model.write_text("\n".join(lines) + "\n", encoding="ascii")

@@ -169,7 +169,7 @@ struct Rules {
     std::vector<std::array<uint32_t, 2>> pairs;
 };
 
-// All pairs joined: no rule; none: kind 1 with the largest value; some: these pairs.
+// All pairs joined: no rule, as all frequencies differ; none: kind 1 with the largest value; some: these pairs.
 inline void add_rule(const Edges &edges, int a, int b, Rules &rules) {
     size_t before = rules.pairs.size();
     for (int p = 0; p < edges.count[a]; p++)

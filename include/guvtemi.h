@@ -49,8 +49,8 @@ enum {
 uint64_t guvtemi_plan(const uint8_t *sheet, size_t sheet_len, uint32_t filter, uint32_t choice, uint32_t limit,
                       const uint8_t *classes, size_t classes_len, uint8_t *cells, size_t cells_len);
 
-/* Checks cells against a sheet: GUVTEMI_YES exactly if each link's cell is in its list and all rules hold,
-   GUVTEMI_NO if not, or the refusal's number. Writes nothing. */
+/* Checks cells against a sheet: GUVTEMI_YES exactly if each link's cell is in its list, all rules hold, and links
+   without a rule differ in frequency; GUVTEMI_NO if not, or the refusal's number. Writes nothing. */
 uint64_t guvtemi_check(const uint8_t *sheet, size_t sheet_len, const uint8_t *cells, size_t cells_len);
 
 /* The answer's number and the nodes in what guvtemi_plan returned. */

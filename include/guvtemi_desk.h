@@ -47,7 +47,8 @@ uint64_t guvtemi_export(const uint8_t *sheet, size_t sheet_len, uint8_t *graph, 
                         uint8_t *counts, size_t counts_len);
 
 /* Writes the sheet of a graph: form 1, vertex v on v kHz. Links joined by all pairs get no rule, links joined by none
-   kind 1 with value 9,999,999, all others kind 3.
+   kind 1 with value 9,999,999, all others kind 3. No two imported links share a frequency, so those without a rule go
+   together on any two.
    graph    edges in any order, either way round
    counts   as above
    sheet    zero past what is written, and wholly zero on a refusal; the length is then 0

@@ -277,10 +277,15 @@ def graph_calls(rng, graphs):
             yield f"{name}, a byte too few", 15, import_call(rng, graph, counts, length - 1)
 
 
+def all_different(sizes):
+    """Lists of these sizes in which no two links share a frequency: without a rule, all their pairs are joined."""
+    return [list(range(sum(sizes[:link]) + 1, sum(sizes[:link + 1]) + 1)) for link in range(len(sizes))]
+
+
 def limit_exports(rng):
     """Exports of sheets at their limits and of the largest texts, with room enough, just enough and one byte less."""
     sheets = [data for _, data in samples.limit_sheets()]
-    sheets += [encode(Sheet([list(range(1, size + 1)) for size in sizes], [])) for sizes in (EIGHTS, LONGEST_GRAPH, LONGEST_COUNTS)]
+    sheets += [encode(Sheet(all_different(sizes), [])) for sizes in (EIGHTS, LONGEST_GRAPH, LONGEST_COUNTS)]
     sheets += [encode(Sheet([[5, 6], [5]], [Rule(0, 1, LISTED, 0, [(1, 0)])]))]
     for data in sheets:
         yield export_call(rng, data, MOST_GRAPH_BYTES, MOST_COUNT_BYTES)

@@ -9,7 +9,7 @@ import reading
 import samples
 from desk_samples import EXPORT, IMPORT, MOST_COUNT_BYTES, MOST_GRAPH_BYTES, DeskCall
 from harness import EXAMPLES, need, test
-from jobsheet.binary import encode
+from jobsheet.binary import LISTED, Rule, Sheet, encode
 from native import DESK_ARCHIVE, SANITIZE
 
 GUARDED = ["-O2", "-DGUARD=64"]
@@ -90,6 +90,17 @@ def _(args):
     need(max(graph for graph, _ in lengths) == MOST_GRAPH_BYTES and max(counts for _, counts in lengths) == MOST_COUNT_BYTES,
          "no call wrote a text of the largest size")
     return told(compare(calls, found))
+
+
+@test("export: links without a rule are joined where their frequencies differ, listed ones as listed")
+def _(_):
+    two, every = [[500_000, 500_400], [500_000, 500_400]], [(0, 0), (0, 1), (1, 0), (1, 1)]
+    wanted_edges = [(samples.UNRULED, []), (Sheet(two, []), ["e 1 4", "e 2 3"]),
+                    (Sheet(two, [Rule(0, 1, LISTED, 0, every)]), ["e 1 3", "e 1 4", "e 2 3", "e 2 4"])]
+    calls = [DeskCall(EXPORT, [encode(sheet)], [bytes(100), bytes(10)]) for sheet, _ in wanted_edges]
+    for (sheet, edges), (_, _, (graph, _)) in zip(wanted_edges, native.desk_answers(driver(), calls)):
+        lines = graph.rstrip(b"\0").decode().splitlines()
+        need(lines == [f"p edge {sheet.frequencies()} {len(edges)}", *edges], f"{sheet}: {lines}")
 
 
 # ---- Export, then import

@@ -2,13 +2,14 @@
 
 import random
 import re
+import struct
 from collections import Counter
 
 import native
 import reading
 import samples
 from harness import EXAMPLES, PROGRAM, example_sheets, need, printed_by_program, test
-from jobsheet import binary
+from jobsheet.binary import LISTED, Rule, Sheet, encode
 from native import ARCHIVE, DESK_ARCHIVE, ROOT, SANITIZE, WARNINGS, run
 
 HEADERS = {"guvtemi.h": (ARCHIVE, {"guvtemi_plan", "guvtemi_check"}), "guvtemi_desk.h": (DESK_ARCHIVE, {"guvtemi_export", "guvtemi_import"})}
@@ -126,6 +127,27 @@ def _(_):
     return f"{sum(compare(calls, native.answers(driver, calls)).values()):,} calls"
 
 
+@test("two packs on one carrier: no plan without a rule, a plan where the pair is listed; the check says the same")
+def _(_):
+    driver = native.build("tests/driver.c", "driver", ["-O2"])
+    listed = Sheet(samples.UNRULED.links, [Rule(0, 1, LISTED, 0, [(0, 0)])])
+    nodes = (2, 0, 1, 0, 1, 0, 1, 0)  # of filters 0 to 7 under choice 0; choice 1 makes one class
+    calls, wanted = [], []
+    for filters in range(8):
+        for choice in range(2):
+            calls += [samples.Call(encode(sheet), filters, choice, 1_000_000, b"", bytes(8)) for sheet in (samples.UNRULED, listed)]
+            wanted += [(101 << 32) + (0 if choice else nodes[filters]), (100 << 32) + 3]
+    same = struct.pack("<2I", 500_000, 500_000)
+    calls += [samples.Call(encode(sheet), cells=same) for sheet in (samples.UNRULED, listed)]
+    wanted += [reading.NO, reading.YES]
+    found = native.answers(driver, calls)
+    for call, number, (returned, _, _) in zip(calls, wanted, found):
+        need(returned == number, f"returned {returned >> 32} and {returned % 2**32}, wanted {number >> 32} and {number % 2**32}: {call}")
+    compare(calls, found)
+    printed = printed_by_program(encode(samples.UNRULED))
+    need(printed == "none 0\n", f"the program says {printed!r}")
+
+
 @test("both functions: no complaint of valgrind")
 def _(args):
     rng = random.Random(args.seed + 1)
@@ -147,7 +169,7 @@ def _(args):
     runs = 0
     while runs < max(args.cases // 10, 50):
         sheet = samples.random_sheet(rng)
-        data, classes = binary.encode(sheet), samples.classes_for(rng, sheet)
+        data, classes = encode(sheet), samples.classes_for(rng, sheet)
         filters, choice, limit = rng.randrange(8), rng.randrange(3), rng.choice((1, 3, 10, 1_000_000))
         number, nodes, plan = reading.planned(reading.Sheet(data), filters, choice, limit, classes)
         if number == 12:

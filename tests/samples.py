@@ -7,37 +7,44 @@ from dataclasses import dataclass
 import reading
 from jobsheet.binary import EXACT, LISTED, SPACING, Rule, Sheet, encode
 
+UNRULED = Sheet([[500_000], [500_000]], [])  # the rule-less sheet of the scope: no plan
 EDGES = (0, 1, 2, 3, 4, 39, 40, 63, 64, 65, 255, 256, 511, 512, 513, 2016, 2017, 8192, 8193, 32767, 32768, 65535)
 WIDE_EDGES = EDGES + (65536, 9_999_999, 10_000_000, 2**31 - 1, 2**31, 2**32 - 1)
 
 
 def random_sheet(rng, most_links=6, most_frequencies=5):
-    """A small sheet with rules of every kind, close frequencies, and some pairs of links without a rule."""
-    top = rng.choice((9, 9, 14, 40))
+    """A small sheet with rules of every kind and close frequencies; links without a rule often share some of theirs."""
+    top, unruled = rng.choice((9, 9, 14, 40)), rng.choice((0.15, 0.15, 0.15, 0.5, 1))
     links = [sorted(rng.sample(range(1, top), rng.randint(1, most_frequencies))) for _ in range(rng.randint(1, most_links))]
     rules = []
     for a in range(len(links)):
         for b in range(a + 1, len(links)):
-            kind = rng.choice((0, SPACING, SPACING, EXACT, LISTED, LISTED))
+            kind = 0 if rng.random() < unruled else rng.choice((SPACING, SPACING, EXACT, LISTED, LISTED))
             if kind in (SPACING, EXACT):
                 rules.append(Rule(a, b, kind, rng.randint(1, 4)))
             elif kind == LISTED:
-                pairs = [(p, q) for p in range(len(links[a])) for q in range(len(links[b])) if rng.random() < 0.65]
+                pairs = _random_pairs(rng, links[a], links[b])
                 if pairs:
                     rules.append(Rule(a, b, LISTED, 0, pairs))
     return Sheet(links, rules)
 
 
+def _random_pairs(rng, first, second):
+    """Pairs of a kind 3 rule. Those of equal frequencies are listed like others, all, not at all, or alone; now and then all pairs are."""
+    unequal, equal = rng.choice(((0.65, 0.65), (0.65, 0.65), (0.65, 1), (0.65, 0), (1, 1), (1, 0), (0, 1)))
+    return [(p, q) for p, f in enumerate(first) for q, g in enumerate(second) if rng.random() < (equal if f == g else unequal)]
+
+
 def wide_sheet(rng):
-    """A sheet of any size that is accepted, with frequencies from the whole range."""
-    links = []
+    """A sheet of any size that is accepted, with frequencies from the whole range; on a raster, links share many."""
+    links, raster = [], rng.choice((1, 25))
     left = 512
     for _ in range(rng.randint(1, 64)):
         count = min(rng.choice((1, 1, 2, 3, 8, 20)), left)
         if count == 0:
             break
         low = rng.choice((1, 500_000, 9_999_000))
-        links.append(sorted(rng.sample(range(low, min(low + 1000, 10_000_000)), count)))
+        links.append(sorted(rng.sample(range(low, min(low + 1000, 10_000_000), raster), count)))
         left -= count
     rules, pairs_left = [], 8192
     for a in range(len(links)):
@@ -58,6 +65,7 @@ def limit_sheets():
     every = [(a, b) for a in range(64) for b in range(a + 1, 64)]
     eights = [[500_000 + 400 * (8 * a + i) for i in range(8)] for a in range(64)]
     half = [list(range(1, 257)), list(range(1000, 1256))]
+    shared = [sorted(500_000 + 25 * ((7 * a + 3 * i) % 40) for i in range(8)) for a in range(64)]
     pairs = [(p, q) for p in range(256) for q in range(256)]
     return [
         ("64 links, 512 frequencies, 2,016 rules", encode(Sheet(eights, [Rule(a, b, SPACING, 400) for a, b in every]))),
@@ -66,7 +74,11 @@ def limit_sheets():
         ("8,193 pairs", encode(Sheet(half, [Rule(0, 1, LISTED, 0, pairs[:8193])]))),
         ("512 frequencies of one link", encode(Sheet([list(range(1, 513))], []))),
         ("513 frequencies", encode(Sheet([list(range(1, 514))], []))),
-        ("64 links of one frequency", encode(Sheet([[9_999_999]] * 64, []))),
+        ("64 links of one frequency", encode(Sheet([[9_999_936 + link] for link in range(64)], []))),
+        ("64 links on one frequency, no rule", encode(Sheet([[9_999_999]] * 64, []))),
+        ("64 links on one frequency, listed", encode(Sheet([[9_999_999]] * 64, [Rule(a, b, LISTED, 0, [(0, 0)]) for a, b in every]))),
+        ("64 links of 8 of the same 40 frequencies, no rule", encode(Sheet(shared, []))),
+        ("two links of 256 frequencies, half of them the same, no rule", encode(Sheet([list(range(1, 257)), list(range(129, 385))], []))),
         ("65 links", encode(Sheet([[1]] * 65, []))),
         ("2,017 rules", encode(Sheet(eights, [Rule(a, b, SPACING, 1) for a, b in every] + [Rule(0, 1, SPACING, 1)]))),
         ("the whole range", encode(Sheet([[1, 9_999_999], [1, 9_999_999]], [Rule(0, 1, SPACING, 9_999_998)]))),
@@ -187,20 +199,29 @@ def frequencies_of(sheet):
     return sum(len(listed) for listed in sheet.links)
 
 
-def _check_call(rng, sheet, data, cells_len):
-    """Cells with a frequency of each list, mostly one that keeps the rules with those before it, now and then with a wrong number."""
-    chosen = []
+def check_cells(rng, sheet):
+    """A frequency of each list, mostly one that goes with those before it, now and then one of another link or a wrong number."""
+    chosen, rules = [], {(rule.a, rule.b): rule for rule in sheet.rules}
     for link, listed in enumerate(sheet.links):
-        fitting = [khz for khz in listed if all(_allows(sheet, rule, chosen, khz) for rule in sheet.rules if rule.b == link)]
+        fitting = [khz for khz in listed if all(_allows(sheet, rules.get((a, link)), chosen[a], khz) for a in range(link))]
         chosen.append(rng.choice(fitting if fitting and rng.random() < 0.95 else listed))
+    if rng.random() < 0.15:
+        chosen[rng.randrange(len(chosen))] = rng.choice(chosen)
     if rng.random() < 0.1:
         chosen[rng.randrange(len(chosen))] = rng.choice((0, 1, 2**32 - 1, rng.randrange(12)))
+    return chosen
+
+
+def _check_call(rng, sheet, data, cells_len):
+    chosen = check_cells(rng, sheet)
     cells = struct.pack(f"<{len(chosen)}I", *chosen) + bytes(rng.randrange(256) for _ in range(1000))
     return Call(data, cells=cells[:cells_len])
 
 
-def _allows(sheet, rule, chosen, khz):
-    other = chosen[rule.a]
+def _allows(sheet, rule, other, khz):
+    """Whether two links allow the first one's frequency `other` with the second one's `khz`; the rule is None where they have none."""
+    if rule is None:
+        return other != khz
     if rule.kind == LISTED:
         return (sheet.links[rule.a].index(other), sheet.links[rule.b].index(khz)) in rule.pairs if other in sheet.links[rule.a] else False
     return abs(other - khz) >= rule.value if rule.kind == SPACING else abs(other - khz) == rule.value
@@ -223,8 +244,12 @@ def telling_sheets():
         Sheet([[500_000, 500_400], [500_000, 500_300]], [Rule(0, 1, SPACING, 400)]),
         Sheet([[500_000], [500_100]], [Rule(0, 1, SPACING, 400)]),
         Sheet([[500_000], [500_100]], [Rule(0, 1, SPACING, 100)]),
-        Sheet([[500_000], [500_000]], []),
+        UNRULED,
         Sheet([[500_000]], []),
+        # One carrier where it is listed, where all but it is, and where three links have two frequencies and no rule.
+        Sheet([[500_000], [500_000]], listed([(0, 1, [(0, 0)])])),
+        Sheet([[1, 2], [1, 2]], listed([(0, 1, [(0, 0), (1, 1)])])), Sheet([[1, 2], [1, 2]], listed([(0, 1, [(0, 1), (1, 0)])])),
+        Sheet([[1, 2]] * 3, []), Sheet([[1, 2]] * 3, [Rule(0, 1, SPACING, 1)] + listed([(1, 2, [(0, 0), (0, 1), (1, 0), (1, 1)])])),
         # Document 000, Example 1 and Example 3.
         Sheet([[1, 3, 5], [1, 2, 3], [5, 6], [1, 2, 3]],
               listed([(0, 1, [(0, 0), (0, 1), (1, 2), (2, 2)]), (0, 2, [(0, 0), (1, 1)]), (0, 3, [(0, 0)]),
@@ -235,7 +260,8 @@ def telling_sheets():
         # A trial that succeeds and whose strikes must not stay.
         Sheet([[1, 2, 3], [1, 2]], listed([(0, 1, [(2, 0), (2, 1)])])),
         # More than k greedy classes: the layers are used.
-        Sheet([[1, 2, 3]] * 3, listed([(0, 1, [(1, 0), (1, 2), (2, 1), (2, 2)]), (0, 2, [(0, 0), (0, 1), (1, 1), (2, 0), (2, 1), (2, 2)])])),
+        Sheet([[1, 2, 3]] * 3, listed([(0, 1, [(1, 0), (1, 2), (2, 1), (2, 2)]), (0, 2, [(0, 0), (0, 1), (1, 1), (2, 0), (2, 1), (2, 2)]),
+                                       (1, 2, [(p, q) for p in range(3) for q in range(3)])])),
         # The pre-filter empties a greedy class, and no layer.
         Sheet([[1, 2, 4], [2, 5], [2]], listed([(0, 1, [(0, 0), (1, 0), (1, 1)])]) + [Rule(0, 2, SPACING, 1), Rule(1, 2, SPACING, 1)]),
     ]

@@ -4,6 +4,7 @@ import os
 import random
 import re
 import shutil
+import struct
 import sys
 import tempfile
 import xml.dom.minidom
@@ -15,6 +16,7 @@ import native
 import reading
 import samples
 from harness import EXAMPLES, SHEET, example_answers, example_sheets, need, printed_by_program, test
+from jobsheet import answer as planner
 from jobsheet import binary, desk, picture, show, text
 from jobsheet.answer import Answer, width
 from native import DESK_ARCHIVE, ROOT, run
@@ -69,7 +71,7 @@ def _(_):
     plan = printed_by_program((EXAMPLES / "theatre.sheet").read_bytes()).splitlines()[1:]
     for link, line in enumerate(plan):
         khz = int(line.split()[1])
-        row = rf"^ *{link}  {re.escape(job.names[link])} +{khz // 1000}\.{khz % 1000:03}  .*(kHz to|no rule)"
+        row = rf"^ *{link}  {re.escape(job.names[link])} +{khz // 1000}\.{khz % 1000:03}  \d+ kHz to "
         need(re.search(row, table, re.MULTILINE), f"no row for link {link} in the table")
 
 
@@ -278,6 +280,67 @@ def _(args):
     return f"{args.cases:,} sheets"
 
 
+@test("free lists every pair, differ gives no rule, and show tells them apart")
+def _(_):
+    head = "job x\nlink A 500.0 500.4\nlink B 500.0 500.4\nlink C 500.4\n"
+    every = [(0, 0), (0, 1), (1, 0), (1, 1)]
+    for lines, rules in (("", {}), ("differ A B C", {}), ("free A B", {(0, 1): every}), ("free C A", {(0, 2): [(0, 0), (1, 0)]}),
+                         ("apart 400 all\nfree A B\ndiffer B C", {(0, 1): every, (0, 2): []}),
+                         ("pairs A B 500.0/500.0 500.0/500.4 500.4/500.0 500.4/500.4", {(0, 1): every})):
+        made = text.parse(head + lines).sheet
+        need({(rule.a, rule.b): rule.pairs for rule in made.rules} == rules, f"{lines}: {made.rules}")
+        shown = show.show(made, "x")
+        need(text.parse(shown).sheet == made, f"make of show differs: {shown}")
+        need(("\nfree link0 link1\n" in shown) == ((0, 1) in rules) and "\npairs " not in shown, f"{lines}: {shown}")
+    shown = show.show(text.parse(head + "link D 500.8\napart 400 all\ndiffer A B").sheet, "x")
+    need("\napart 400 all\ndiffer link0 link1\n" in shown, shown)
+
+
+@test("free and differ: a second line on two links, and more pairs than a sheet holds")
+def _(_):
+    lists = "".join(f"link L{link} " + " ".join(str(500_000 + 25 * i) for i in range(64)) + "\n" for link in range(3))
+    faults = {"free L0 L1\npairs L0 L1 500.0/500.0": (6, "found a second one beside line 5"),
+              "pairs L0 L1 500.0/500.0\nfree L0 L1": (6, "found a second one beside line 5"),
+              "differ L0 L1\nfree L1 L0": (6, "found a second one beside line 5"),
+              "free L0": (5, "expected the names of two or more links after free, found L0"),
+              "differ": (5, "expected the names of two or more links after differ, found none"),
+              "free L0 L1 L2": (5, "expected at most 8,192 allowed pairs in all, found 12,288, all by free"),
+              "free L0 L1\npairs L0 L2 500.0/500.0\nfree L1 L2": (7, "found 8,193, 8,192 of them by free")}
+    for lines, (line, words) in faults.items():
+        try:
+            text.parse("job x\n" + lists + lines)
+            need(False, f"{lines}: read")
+        except text.TextError as error:
+            need([number for number, _ in error.faults] == [line] and words in error.faults[0][1], f"{lines}: {error}")
+    need(text.parse("job x\n" + lists + "free L0 L1\nfree L1 L2").sheet.pairs() == 8192, "8,192 pairs by free")
+
+
+@test("the tools' check of a plan says what the reading says")
+def _(args):
+    rng = random.Random(args.seed + 8)
+    seen = Counter()
+    for _ in range(args.cases):
+        sheet = samples.random_sheet(rng)
+        cells = samples.check_cells(rng, sheet)
+        wanted = reading.console_check(binary.encode(sheet), struct.pack(f"<{len(cells)}I", *cells)) == reading.YES
+        need(planner.keeps_rules(sheet, cells) == wanted, f"{sheet}, {cells}: wanted {wanted}")
+        seen[wanted] += 1
+    need(seen[True] and seen[False], f"{seen}")
+    return f"{seen[True]:,} of {args.cases:,} plans keep the rules"
+
+
+@test("tables and pictures: links without a rule count, free links do not")
+def _(_):
+    for lines, told in (("", "25 kHz to B (no rule: another frequency)"), ("free A B", "400 kHz to C (no rule: another frequency)"),
+                        ("free A B C", "no link to keep apart from"), ("apart 25 A B", "25 kHz to B (at least 25 kHz)")):
+        job = text.parse("job x\nlink A 500.0\nlink B 500.025\nlink C 500.4\n" + lines)
+        answer = Answer("found", 4, [500_000, 500_025, 500_400])
+        row = planner.table(job.sheet, job.names, answer).splitlines()[1]
+        need(row == f"   0  A       500.000  {told}", f"{lines}: {row}")
+        labels_apart(picture.svg(job, answer))
+        need(("tightest pair" in picture.svg(job, answer)) == (lines != "free A B C"), f"{lines}: the tightest pair")
+
+
 @test("why gives the planner's number for damaged sheets")
 def _(args):
     rng = random.Random(args.seed + 3)
@@ -311,7 +374,8 @@ def _(args):
         for _ in range(rng.choice((1, 1, 3))):
             at = rng.randrange(len(lines))
             words = lines[at].split(" ") or [""]
-            words[rng.randrange(len(words))] = rng.choice(("", '"', "#", "all", "link", "0", "1e9", "500,1", "500.4MHz", "kHz", "Romeo", "-1", "9" * 30, "ä/ö", "1/2"))
+            words[rng.randrange(len(words))] = rng.choice(("", '"', "#", "all", "link", "free", "differ", "0", "1e9", "500,1", "500.4MHz", "kHz",
+                                                           "Romeo", "-1", "9" * 30, "ä/ö", "1/2"))
             lines[at] = " ".join(words)
         try:
             data = binary.encode(text.parse("\n".join(lines)).sheet)

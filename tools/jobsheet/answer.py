@@ -1,5 +1,6 @@
 """The planner's answer to a sheet: running the proved program, and its plan as a table."""
 
+import itertools
 import subprocess
 import sys
 import unicodedata
@@ -28,14 +29,19 @@ class Answer:
 
 @dataclass
 class Spacing:
-    """Two links that a rule names, how far apart their frequencies are, and that rule."""
+    """Two links, how far apart their frequencies are, and their rule, None where they have none."""
+    links: tuple
     apart: int
     rule: object
 
     def spare(self):
+        if self.rule is None:
+            return self.apart - 1
         return self.apart - self.rule.value if self.rule.kind == SPACING else 0
 
     def asked(self):
+        if self.rule is None:
+            return "no rule: another frequency"
         if self.rule.kind == SPACING:
             return f"at least {self.rule.value} kHz"
         return f"just {self.rule.value} kHz" if self.rule.kind == EXACT else "a listed pair"
@@ -92,26 +98,33 @@ def plan(sheet):
     return answer
 
 
+def spacings(sheet, khz):
+    """The spacing of every two links of a plan."""
+    rules = {(rule.a, rule.b): rule for rule in sheet.rules}
+    return [Spacing((a, b), abs(khz[a] - khz[b]), rules.get((a, b))) for a, b in itertools.combinations(range(len(khz)), 2)]
+
+
 def keeps_rules(sheet, khz):
-    """Whether each frequency is in its link's list and every rule allows its two."""
+    """Whether each frequency is in its link's list, every rule allows its two, and links without a rule differ."""
     if len(khz) != len(sheet.links) or any(f not in listed for f, listed in zip(khz, sheet.links)):
         return False
-    for rule in sheet.rules:
-        f, g = khz[rule.a], khz[rule.b]
-        if rule.kind == SPACING:
-            allowed = abs(f - g) >= rule.value
+    position = [listed.index(f) for f, listed in zip(khz, sheet.links)]
+    for spacing in spacings(sheet, khz):
+        rule, (a, b) = spacing.rule, spacing.links
+        if rule is None or rule.kind == SPACING:
+            allowed = spacing.spare() >= 0
         elif rule.kind == EXACT:
-            allowed = abs(f - g) == rule.value
+            allowed = spacing.apart == rule.value
         else:
-            allowed = (sheet.links[rule.a].index(f), sheet.links[rule.b].index(g)) in rule.pairs
+            allowed = (position[a], position[b]) in rule.pairs
         if not allowed:
             return False
     return True
 
 
 def tightest(sheet, khz, link=None):
-    """The least spacing of two links that a rule names (of this link, where one is given), or None without such a rule."""
-    found = [Spacing(abs(khz[rule.a] - khz[rule.b]), rule) for rule in sheet.rules if link in (None, rule.a, rule.b)]
+    """The least spacing of two links (of this link, where one is given) that are not free; None without such links."""
+    found = [near for near in spacings(sheet, khz) if link in (None, *near.links) and not (near.rule and sheet.is_free(near.rule))]
     return min(found, key=lambda spacing: (spacing.apart, spacing.spare()), default=None)
 
 
@@ -137,18 +150,19 @@ def width(text):
 
 
 def table(sheet, names, answer):
-    """The plan line by line: link number, name, MHz, and the tightest spacing to a neighbour that a rule names."""
+    """The plan line by line: link number, name, MHz, and the tightest spacing to another link."""
     wide = max([width(name) for name in names] + [4])
     rows = [f"link  name{' ' * (wide - 4)}        MHz  tightest spacing"]
     for link, (name, khz) in enumerate(zip(names, answer.khz)):
         near = tightest(sheet, answer.khz, link)
         if near is None:
-            told = "no rule names it"
+            told = "no link to keep apart from"
         else:
-            other = near.rule.b if near.rule.a == link else near.rule.a
+            other, = set(near.links) - {link}
             told = f"{near.apart} kHz to {names[other]} ({near.asked()})"
         rows.append(f"{link:4}  {name}{' ' * (wide - width(name))}  {mhz(khz):>9}  {told}")
     worst = tightest(sheet, answer.khz)
     if worst:
-        rows += ["", f"tightest pair: {names[worst.rule.a]} and {names[worst.rule.b]}, {worst.apart} kHz apart ({worst.asked()})"]
+        first, second = (names[link] for link in worst.links)
+        rows += ["", f"tightest pair: {first} and {second}, {worst.apart} kHz apart ({worst.asked()})"]
     return "\n".join(rows)

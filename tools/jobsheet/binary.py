@@ -32,7 +32,7 @@ class Rule:
 
 @dataclass
 class Sheet:
-    """One hall's job: for each link its frequencies in kHz, rising; rules rising by (a, b)."""
+    """One hall's job: for each link its frequencies in kHz, rising; rules rising by (a, b). Links without a rule have to differ."""
     links: list
     rules: list
 
@@ -41,6 +41,10 @@ class Sheet:
 
     def pairs(self):
         return sum(len(rule.pairs) for rule in self.rules)
+
+    def is_free(self, rule):
+        """Whether a rule lists every pair of its links' frequencies, so that they may share a carrier."""
+        return rule.kind == LISTED and len(rule.pairs) == len(self.links[rule.a]) * len(self.links[rule.b])
 
     def counted(self):
         """Its size in words."""

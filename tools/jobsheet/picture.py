@@ -43,7 +43,7 @@ class _Picture:
         self.names = [_cut(name) for name in job.names]
         worst = tightest(self.sheet, self.plan) if self.plan else None
         self.worst = worst
-        self.worst_links = (worst.rule.a, worst.rule.b) if worst else ()
+        self.worst_links = worst.links if worst else ()
         left = 24 + CHARACTER * max(10, 4 + max(width(name) for name in self.names))
         self.axis = Axis([khz for listed in self.sheet.links for khz in listed], left, WIDE - RIGHT)
         self.shapes = []
@@ -140,7 +140,7 @@ class _Picture:
         end = self._scale(bottom + 6)
         told = ["grey strokes: the frequencies that a link can tune to"]
         told += ["dots: the plan"] if self.plan else []
-        told += ["red: the tightest pair that a rule names"] if self.worst else []
+        told += ["red: the tightest pair"] if self.worst else []
         self._write(self.axis.left, end + 4, "; ".join(told), "quiet")
         return end + 20
 

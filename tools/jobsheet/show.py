@@ -16,11 +16,12 @@ def show(sheet, job):
     if sheet.rules:
         lines.append("")
     lines += _spacings(sheet, names)
+    lines += _grouped("free", {(rule.a, rule.b) for rule in sheet.rules if sheet.is_free(rule)}, names)
     for rule in sheet.rules:
         if rule.kind == EXACT:
             lines.append(f"exactly {rule.value} {names[rule.a]} {names[rule.b]}")
     for rule in sheet.rules:
-        if rule.kind == LISTED:
+        if rule.kind == LISTED and not sheet.is_free(rule):
             lines += _listed(sheet, rule, names)
     return "\n".join(lines) + "\n"
 
@@ -35,7 +36,7 @@ def _spacings(sheet, names):
     """The lines of kind 1: the commonest value for all links where that is shorter, the others by groups of links."""
     k = len(sheet.links)
     ruled = {(rule.a, rule.b) for rule in sheet.rules}
-    free = {(a, b) for a in range(k) for b in range(a + 1, k)} - ruled
+    unruled = {(a, b) for a in range(k) for b in range(a + 1, k)} - ruled
     by_value = {}
     for rule in sheet.rules:
         if rule.kind == SPACING:
@@ -43,18 +44,16 @@ def _spacings(sheet, names):
     if not by_value:
         return
     common = max(by_value, key=lambda value: (len(by_value[value]), -value))
-    if len(by_value[common]) > 2 * len(free):
+    if len(by_value[common]) > 2 * len(unruled):
         del by_value[common]
         yield f"apart {common} all"
-        for group in _groups(free):
-            yield "free " + " ".join(names[link] for link in group)
+        yield from _grouped("differ", unruled, names)
     for value in sorted(by_value):
-        for group in _groups(by_value[value]):
-            yield f"apart {value} " + " ".join(names[link] for link in group)
+        yield from _grouped(f"apart {value}", by_value[value], names)
 
 
-def _groups(pairs):
-    """Groups of links that together hold just these pairs, each pair in one group."""
+def _grouped(words, pairs, names):
+    """Lines that begin with these words and name groups of links: together just these pairs, each pair in one group."""
     left = set(pairs)
     while left:
         group = list(min(left))
@@ -62,4 +61,4 @@ def _groups(pairs):
             if link > group[-1] and all((other, link) in left for other in group):
                 group.append(link)
         left -= {(a, b) for i, a in enumerate(group) for b in group[i + 1:]}
-        yield group
+        yield f"{words} " + " ".join(names[link] for link in group)

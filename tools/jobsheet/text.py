@@ -1,6 +1,7 @@
 """Reading the text form of a job sheet (docs/TEXT.md)."""
 
 import difflib
+import itertools
 import re
 from dataclasses import dataclass
 from fractions import Fraction
@@ -8,7 +9,7 @@ from fractions import Fraction
 from .binary import (EXACT, LISTED, MOST_FREQUENCIES, MOST_KHZ, MOST_LINKS, MOST_PAIRS, SPACING, Rule, Sheet)
 
 NUMBER = re.compile(r"([0-9]{1,18}(?:\.[0-9]{1,18})?)(khz|mhz)?", re.IGNORECASE)
-WORDS = ("job", "link", "apart", "exactly", "pairs", "free")
+WORDS = ("job", "link", "apart", "exactly", "pairs", "free", "differ")
 
 
 @dataclass
@@ -88,8 +89,9 @@ class _Reader:
         self.job_name = None
         self.names, self.links, self.link_lines = [], [], []
         self.rule_lines = []
-        self.rules, self.named_at = {}, {}
+        self.rules, self.named_at = {}, {}  # by two links: their rule; the line and the word that names them first
         self.seen_pairs = set()
+        self.pairs_at = []  # (line, word, pairs) of each line that lists pairs
         self.default = None
 
     def job(self):
@@ -103,16 +105,20 @@ class _Reader:
             self._whole(last)
         if self.faults:
             raise TextError(sorted(self.faults))
-        if self.default:
-            value, _ = self.default
-            for a in range(len(self.links)):
-                for b in range(a + 1, len(self.links)):
-                    if (a, b) not in self.named_at:
-                        self.rules[a, b] = Rule(a, b, SPACING, value)
-        rules = [self.rules[pair] for pair in sorted(self.rules)]
-        for rule in rules:
+        return Job(self.job_name, self.names, Sheet(self.links, self._all_rules()), self.notes)
+
+    def _all_rules(self):
+        """The rules of a text without faults, rising by their links: those of its lines, of `free`, and of `apart .. all`."""
+        for (a, b), (_, word) in self.named_at.items():
+            if word == "free":
+                every = itertools.product(range(len(self.links[a])), range(len(self.links[b])))
+                self.rules[a, b] = Rule(a, b, LISTED, 0, list(every))
+        for a, b in itertools.combinations(range(len(self.links)), 2):
+            if self.default and (a, b) not in self.named_at:
+                self.rules[a, b] = Rule(a, b, SPACING, self.default[0])
+        for rule in self.rules.values():
             rule.pairs.sort()
-        return Job(self.job_name, self.names, Sheet(self.links, rules), self.notes)
+        return [self.rules[pair] for pair in sorted(self.rules)]
 
     def _try(self, number, step, line):
         try:
@@ -187,11 +193,13 @@ class _Reader:
             value = _distance(words[1])
             kind = SPACING if word == "apart" else EXACT
             for a, b in self._groups(word, words[2:]):
-                self._name(number, a, b)
+                self._name(number, word, a, b)
                 self.rules[a, b] = Rule(a, b, kind, value)
-        elif word == "free":
+        elif word in ("free", "differ"):
             for a, b in self._groups(word, words[1:]):
-                self._name(number, a, b)
+                self._name(number, word, a, b)
+                if word == "free":
+                    self.pairs_at.append((number, word, len(self.links[a]) * len(self.links[b])))
         else:
             self._pairs(number, words)
 
@@ -206,8 +214,8 @@ class _Reader:
         if len(names) < 2 or (word == "exactly" and len(names) > 2):
             wanted = "the names of two links" if word == "exactly" else "the names of two or more links"
             either = ", or all," if word == "apart" else ""
-            raise _Expected(f"expected {wanted}{either} after {word}{' and the distance' if word != 'free' else ''}, "
-                            f"found {' '.join(names) or 'none'}")
+            distance = " and the distance" if word in ("apart", "exactly") else ""
+            raise _Expected(f"expected {wanted}{either} after {word}{distance}, found {' '.join(names) or 'none'}")
         links = [self._known(name) for name in names]
         for index, link in enumerate(links):
             if link in links[:index]:
@@ -221,12 +229,11 @@ class _Reader:
         hint = f"; did you mean {near[0]}?" if near else ""
         raise _Expected(f"expected the name of a link, found {name}{hint}")
 
-    def _name(self, number, a, b, kind=None):
-        """Notes that a line names two links; a second line on them is wrong, but for more pairs of kind 3."""
-        earlier = self.named_at.get((a, b))
-        if earlier and not (kind == LISTED and (a, b) in self.rules and self.rules[a, b].kind == LISTED):
-            raise _Expected(f"expected one rule for {self.names[a]} and {self.names[b]}, found a second one beside line {earlier}")
-        self.named_at.setdefault((a, b), number)
+    def _name(self, number, word, a, b):
+        """Notes that a line names two links; a second line on them is wrong, but for more pairs."""
+        line, earlier = self.named_at.setdefault((a, b), (number, word))
+        if line != number and not word == earlier == "pairs":
+            raise _Expected(f"expected one rule for {self.names[a]} and {self.names[b]}, found a second one beside line {line}")
 
     def _pairs(self, number, words):
         if len(words) < 4:
@@ -235,8 +242,9 @@ class _Reader:
         if not self.links[a] or not self.links[b]:
             return  # the link's own line is wrong and is reported
         turned = self._known(words[1]) == b
-        self._name(number, a, b, LISTED)
+        self._name(number, "pairs", a, b)
         rule = self.rules.setdefault((a, b), Rule(a, b, LISTED))
+        self.pairs_at.append((number, "pairs", len(words) - 3))
         for word in words[3:]:
             sides = word.split("/")
             if len(sides) != 2:
@@ -262,6 +270,17 @@ class _Reader:
             self.faults.append((1, "expected the line 'job NAME', found nothing but comments and blank lines"))
         elif not self.links:
             self.faults.append((max(last, 1), "expected at least one line 'link NAME FREQUENCY ..', found the end of the text"))
-        pairs = sum(len(rule.pairs) for rule in self.rules.values())
-        if pairs > MOST_PAIRS:
-            self.faults.append((self.rule_lines[-1][0], f"expected at most {MOST_PAIRS:,} allowed pairs in all, found {pairs:,}"))
+        if sum(pairs for _, _, pairs in self.pairs_at) > MOST_PAIRS:
+            self.faults.append(self._too_many_pairs())
+
+    def _too_many_pairs(self):
+        """The line with which the pairs become too many, how many all lines need, and what to do."""
+        listed = sum(pairs for _, word, pairs in self.pairs_at if word == "pairs")
+        free = sum(pairs for _, word, pairs in self.pairs_at if word == "free")
+        upto = itertools.accumulate(pairs for _, _, pairs in self.pairs_at)
+        line = next(number for (number, _, _), sofar in zip(self.pairs_at, upto) if sofar > MOST_PAIRS)
+        told = f"expected at most {MOST_PAIRS:,} allowed pairs in all, found {listed + free:,}"
+        if not free:
+            return line, f"{told}; list fewer pairs, or write apart or exactly for some of these links"
+        return line, (f"{told}, {f'{free:,} of them' if listed else 'all'} by free, which allows every pair of two links' frequencies; write differ "
+                      "for links that share no frequency or need not share a carrier, or give links that are free fewer frequencies")

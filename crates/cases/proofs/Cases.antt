@@ -1,4 +1,4 @@
--- M1 to M12 compute to what is known of them.
+-- M1 to M12, and the sheets of Ask 2, compute to what is known of them.
 use Rattle.cases.specs.Cases.{CasesHold}
 use Rattle.cases.proofs.Opened.{openSets, openSheet, openGraph, openFilters, openPartition, openPlanner}
 use Rattle.cases.proofs.Opened.{openText}

@@ -43,8 +43,9 @@ unfolding Sheet.linkOk Sheet.linksOk Sheet.freqOk Sheet.linkFreqsOk Sheet.freqsO
 openSheet = tt
 
 unfoldable pub openGraph : Unit {0}
-unfolding Pairs.distance Pairs.samePair Pairs.listsPair Pairs.agree Pairs.allows Pairs.fits Pairs.joins Layers.layerOf
-    Micro.adjacent Graph.inClass Graph.size Graph.some Graph.lone Graph.two Graph.lower Graph.isOpen
+unfolding Pairs.distance Pairs.samePair Pairs.listsPair Pairs.agree Pairs.ofLinks Pairs.differ Pairs.allows Pairs.joins
+    Layers.layerOf
+    Micro.linksDiffer Micro.adjacent Graph.inClass Graph.size Graph.some Graph.lone Graph.two Graph.lower Graph.isOpen
     Listing.byLayer
 openGraph = tt
 

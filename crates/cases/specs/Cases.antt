@@ -1,4 +1,4 @@
--- The sheets with known results to prove: M1 to M12 as one list. A case that holds computes to true.
+-- The sheets with known results to prove: M1 to M12 as one list, and that of Ask 2. A case that holds computes to true.
 use mathlib.Core.Bool.{Bool, true, false, _&&_}
 use mathlib.Core.List.{List, [], _∷_}
 use Prim.Native.Nat.{ℕ}
@@ -126,5 +126,18 @@ cases =
     plans example3 (1 ∷ []) (0 ∷ []) (noPlanIn 2 (0 ∷ 0 ∷ 0 ∷ [])) ∷
     plans example3 (4 ∷ []) (0 ∷ []) (noPlanIn 1 (0 ∷ 0 ∷ 0 ∷ [])) ∷ []
 
+-- Ask 2: "The rule-less sheet of document 01 becomes no plan with 0 nodes under filter 7. .. A listed kind 3 pair may
+-- still be equal"
+abbrev pub oneCarrier : List RuleGiven → List ℕ
+oneCarrier rules = encode ((500000 ∷ []) ∷ (500000 ∷ []) ∷ []) rules
+
+abbrev pub shared : List Case
+shared =
+    plans (oneCarrier []) (0 ∷ []) (0 ∷ []) (noPlanIn 2 (0 ∷ 0 ∷ [])) ∷
+    plans (oneCarrier []) (2 ∷ 4 ∷ 6 ∷ []) (0 ∷ []) (noPlanIn 1 (0 ∷ 0 ∷ [])) ∷
+    plans (oneCarrier []) (1 ∷ 3 ∷ 5 ∷ 7 ∷ []) (0 ∷ []) (noPlanIn 0 (0 ∷ 0 ∷ [])) ∷
+    plans (oneCarrier []) anyFilter (1 ∷ []) (noPlanIn 0 (0 ∷ 0 ∷ [])) ∷
+    plans (oneCarrier (table 0 1 ((0, 0) ∷ []) ∷ [])) anyFilter (0 ∷ 1 ∷ []) (foundIn 3 (500000 ∷ 500000 ∷ [])) ∷ []
+
 abbrev pub CasesHold : Type 0
-CasesHold = T (allHold cases)
+CasesHold = T (allHold cases && allHold shared)

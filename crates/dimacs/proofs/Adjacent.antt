@@ -1,24 +1,23 @@
 -- The graph of the sheet that is made is the graph it is made of.
-use mathlib.Core.Path.{_≡_, refl, sym, ap, subst, _∙_, fun-ext}
-use mathlib.Core.Bool.{Bool, true, false, not, cond, _&&_, _||_}
-use mathlib.Core.List.{List, [], _∷_, _++_}
+use mathlib.Core.Path.{_≡_, refl, sym, ap, _∙_, fun-ext}
+use mathlib.Core.Bool.{Bool, true, false, not, cond}
+use mathlib.Core.List.{List, [], _++_}
 use Prim.Native.Nat.{ℕ, zero, suc, _+_, _-_, _*_, _/_, _%_, _≤_, _<_}
 use native.Mathlib.Omega.{arith}
 use lib.Dec.{ltb, leb, eqb}
 use lib.ListN.{length, getD}
-use borrow.Author.Tests.{lt-ltb, le-leb, lt-leb, eq-eqb, ne-eqb, ltb-true, ltb-false, leb-true, eqb-true, eqb-false}
-use Rattle.sets.specs.Below.{all, any, first, sumTo, count}
-use Rattle.sets.proofs.Tests.{bool, clash, is-false, iff, below, and-l, and-r, and-in, or-l, or-r, or-case, not-in}
-use Rattle.sets.proofs.Tests.{not-out}
-use Rattle.sets.proofs.Below.{all-in, all-out, any-in, first-lt, first-is, sum-in, count-le, count-less}
-use Rattle.sheet_rows.specs.Rows.{linkFirst, linkCount, freq, ruleA, ruleB, ruleKind, ruleCount, ruleValue, pairFirst}
-use Rattle.sheet_rows.specs.Rows.{pairSecond}
-use Rattle.sheet.specs.Sheet.{mostKHz, kOf, nOf, qOf, linkPart, freqPart, rulePart, pairPart}
+use borrow.Author.Tests.{lt-ltb, lt-leb, eq-eqb, ne-eqb, ltb-true, ltb-false, eqb-true, eqb-false}
+use Rattle.sets.specs.Below.{all, any, first, count}
+use Rattle.sets.proofs.Tests.{bool, clash, is-false, iff, below, and-l, and-r, and-in, not-in}
+use Rattle.sets.proofs.Below.{any-in, first-lt, first-is, sum-in, count-le, count-less}
+use Rattle.sheet_rows.specs.Rows.{linkFirst, freq, pairFirst}
+use Rattle.sheet.specs.Sheet.{mostKHz, kOf}
 use Rattle.rules.specs.Layers.{layerOf, InLink}
-use Rattle.rules.specs.Pairs.{distance, samePair, listsPair, agree, allows, fits, joins}
+use Rattle.rules.specs.Pairs.{distance, samePair, listsPair, agree, ofLinks, differ, allows, joins}
 use Rattle.rules.proofs.Laws.{layer-in}
-use Rattle.graph.specs.Graph.{adjacent, layer, edge}
-use Rattle.graph.proofs.Graph.{Adjacent, adjacent-in, adjacent-out, adjacent-sym}
+use Rattle.rules.proofs.Pairing.{of-in, of-out, joins-when}
+use Rattle.graph.specs.Graph.{linksDiffer, adjacent, layer, edge}
+use Rattle.graph.proofs.Graph.{adjacent-out, adjacent-sym}
 use Rattle.dimacs.specs.Lists.{select}
 use Rattle.dimacs.specs.Reading.{countOf, firstOf, verticesOf, layerBy}
 use Rattle.dimacs.specs.Made.{linkRows, freqRows, isPair, pairsOf, isFull, isRuled, ruled, rulePairs, ruledA}
@@ -28,7 +27,7 @@ use Rattle.dimacs.proofs.Lists.{count-pass, select-length, select-has}
 use Rattle.dimacs.proofs.Codes.{code-first, code-second, code-lt}
 use Rattle.dimacs.proofs.Fields.{first-field, count-field, freq-field, a-field, b-field, kind-field, pairs-field}
 use Rattle.dimacs.proofs.Fields.{value-field, first-position, second-position, sections}
-use Rattle.dimacs.proofs.Accepts.{Small, links-ok, rule-count, ruled-is, pair-at, value-is}
+use Rattle.dimacs.proofs.Accepts.{Small, links-ok, ruled-is, pair-at, value-is}
 
 -- an adjacency of the vertices of counts: both ways, among the vertices, never inside a link
 pub record Joins (cs : List ℕ) (adj : ℕ → ℕ → Bool) : Type 0 where
@@ -263,43 +262,41 @@ module _ (cs : List ℕ) (adj : ℕ → ℕ → Bool) (S : Small cs) where
     abbrev ps : List ℕ
     ps = pairRows cs adj
 
-    fits-in : (a b u v j : ℕ) → j < ruleTotal cs adj
-        → (ruledA cs adj j ≡ a → ruledB cs adj j ≡ b → allows ls fs rs ps j u v ≡ true)
-        → fits ls fs rs ps a b u v j ≡ true
-    unfolding fits
-    fits-in a b u v j h f = rw (a-field cs adj rest j h, b-field cs adj rest j h)
-        (bool (eqb (ruledA cs adj j) a && eqb (ruledB cs adj j) b)
-        (λ e. or-r (not (eqb (ruledA cs adj j) a && eqb (ruledB cs adj j) b))
-        (f (eqb-true _ _ (and-l (eqb (ruledA cs adj j) a) _ e))
-        (eqb-true _ _ (and-r (eqb (ruledA cs adj j) a) _ e))))
-        (λ e. or-l _ (not-in e)))
-
-    fits-out : (a b u v j : ℕ) → j < ruleTotal cs adj → ruledA cs adj j ≡ a → ruledB cs adj j ≡ b
-        → fits ls fs rs ps a b u v j ≡ true → allows ls fs rs ps j u v ≡ true
-    unfolding fits
-    fits-out a b u v j h p q t = rw (a-field cs adj rest j h, b-field cs adj rest j h, eq-eqb _ _ p, eq-eqb _ _ q) at t
-
     module _ (a b u v : ℕ) (l : a < b) (x : In cs a u) (y : In cs b v) where
       row-says : (j : ℕ) → j < ruleTotal cs adj → ruledA cs adj j ≡ a → ruledB cs adj j ≡ b
           → allows ls fs rs ps j u v ≡ adj u v
       row-says j h p q = allows-is more also rest j u v h (rw p x) (rw q y)
 
+      -- vertices of different links are on different frequencies
+      apart : differ fs u v ≡ true
+      unfolding differ firstOf
+      apart =
+          let f : firstOf cs a + countOf cs a ≤ firstOf cs b = sum-in b a (countOf cs) l in
+          let g : firstOf cs b + countOf cs b ≤ verticesOf cs = link-within cs b (y .link) in
+          let ul : u < verticesOf cs = omega (arith, x .high, y .low, y .high) in
+          let vl : v < verticesOf cs = omega (arith, y .high) in
+          rw (freq-field cs also u ul, freq-field cs also v vl)
+          (not-in (ne-eqb (u + 1) (v + 1) (λ e. omega (arith, x .high, y .low))))
+
       pub joins-is : joins ls fs rs ps (ruleTotal cs adj) a b u v ≡ adj u v
-      unfolding joins
-      joins-is = iff _ _
-          (λ t. bool (isFull cs adj a b) (full-joins a b u v x y)
+      joins-is = joins-when ls fs rs ps (ruleTotal cs adj) a b u v (adj u v)
+          (λ j h e. let o = of-out rs a b j e in
+          row-says j h (sym (a-field cs adj rest j h) ∙ o .0) (sym (b-field cs adj rest j h) ∙ o .1))
+          (λ j h e. let o = of-out rs b a j e in
+          let i = sym (a-field cs adj rest j h) ∙ o .0 in
+          let t = sym (b-field cs adj rest j h) ∙ o .1 in
+          absurd (omega (arith, ruled-is cs adj S j h .order)))
+          (λ n. bool (isFull cs adj a b)
+          (λ e. apart ∙ sym (full-joins a b u v x y e))
           (λ e. let r = row-of a b l (y .link) e in
-          sym (row-says (r .0) (r .1) (r .2) (r .3))
-          ∙ fits-out a b u v (r .0) (r .1) (r .2) (r .3)
-          (and-l (fits ls fs rs ps a b u v (r .0)) _ (all-out (ruleTotal cs adj) _ t (r .0) (r .1)))))
-          (λ t. all-in (ruleTotal cs adj) _ (λ j h. and-in
-          (fits-in a b u v j h (λ p q. row-says j h p q ∙ t))
-          (fits-in b a v u j h (λ p q. let o = ruled-is cs adj S j h .order in absurd (omega arith)))))
+          clash (ofLinks rs a b (r .0))
+          (of-in rs a b (r .0) (a-field cs adj rest (r .0) (r .1) ∙ r .2) (b-field cs adj rest (r .0) (r .1) ∙ r .3))
+          (n (r .0) (r .1) .0)))
 
     module _ (J : Joins cs adj) where
       lower-is : (u v : ℕ) → u < verticesOf cs → v < verticesOf cs → layerBy cs (length cs) u < layerBy cs (length cs) v
           → adjacent ls fs rs ps (length cs) (verticesOf cs) (ruleTotal cs adj) u v ≡ adj u v
-      unfolding adjacent
+      unfolding adjacent linksDiffer
       lower-is u v a b l =
           let ne : layerBy cs (length cs) u ≡ layerBy cs (length cs) v → ⊥ = λ e. omega arith in
           rw (layer-rows cs S more u, layer-rows cs S more v, lt-ltb _ _ a, lt-ltb _ _ b, ne-eqb _ _ ne)

@@ -12,14 +12,12 @@ use Rattle.sets.specs.Sets.{Set}
 use Rattle.sets.specs.Below.{sumTo}
 use Rattle.sets.proofs.Tests.{and-l}
 use Rattle.sets.proofs.Lists.{length-tabulate, getD-tabulate}
-use Rattle.sheet_rows.specs.Rows.{linkFirst, linkCount}
+use Rattle.sheet_rows.specs.Rows.{linkCount}
 use Rattle.sheet.specs.Sheet.{kOf, nOf, linkPart, mostPairs, linksOk}
 use Rattle.sheet.specs.Refusal.{refusal, unless}
-use Rattle.sheet.specs.Accepted.{Accepted}
 use Rattle.sheet.proofs.Accepted.{accepted}
-use Rattle.sheet.proofs.Causes.{unless-zero, unless-false}
+use Rattle.sheet.proofs.Causes.{unless-zero}
 use Rattle.sheet.proofs.Links.{link-first, link-sum, link-some}
-use Rattle.rules.specs.Layers.{layerOf}
 use Rattle.rules.specs.Job.{jobOf}
 use Rattle.graph.specs.Graph.{layer, edge}
 use Rattle.graph.proofs.Graph.{adjacent-out, layers-of}
@@ -27,10 +25,12 @@ use Rattle.setting.specs.Setting.{Setting}
 use Rattle.planner.specs.Outcome.{outcome}
 use Rattle.demands.specs.SameGraph.{SameGraph, SameVerdict}
 use Rattle.demands.proofs.SameGraph.{graph-decides}
-use Rattle.dimacs.specs.Export.{graphText, countsText, countsOf, graphTextOf, countsTextOf, ExportOutcome, exported}
+use Rattle.dimacs.specs.Export.{graphText, countsText, countsOf, graphTextOf, countsTextOf, ExportOutcome}
+use Rattle.dimacs.specs.Export.{exported}
 use Rattle.dimacs.specs.Reading.{countOf, firstOf, verticesOf, layerBy, Texts, malformed, clashed, texts, textsOf}
-use Rattle.dimacs.specs.Made.{pairTotal, sheetOf}
-use Rattle.dimacs.specs.Import.{textGraph, sheetBytes, sheetFits, textsCause, importCause, sheetBy, importedSheet, ImportOutcome, imported}
+use Rattle.dimacs.specs.Made.{pairTotal}
+use Rattle.dimacs.specs.Import.{textGraph, sheetBytes, sheetFits, textsCause, importCause, sheetBy, importedSheet}
+use Rattle.dimacs.specs.Import.{ImportOutcome, imported}
 use Rattle.dimacs.specs.RoundTrip.{HasGraph, Imports, returned, RoundTrip, DimacsLaws}
 use Rattle.dimacs.specs.RoundTrip.{graphSent, countsSent, sheetMade}
 use Rattle.dimacs.proofs.Calls.{sent, received}

@@ -4,3 +4,4 @@ pub mod Spans
 pub mod Strikes
 pub mod Sides
 pub mod Rows
+pub mod Filing

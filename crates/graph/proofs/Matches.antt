@@ -1,28 +1,31 @@
 -- Demand 2: the k-cliques of the graph and the assignments that keep every rule match one to one, and the check says
 -- yes to exactly these.
 use mathlib.Core.Path.{_≡_, refl, sym, ap, ap₂, subst, _∙_}
-use mathlib.Core.Bool.{Bool, true, false, _&&_}
+use mathlib.Core.Bool.{Bool, true, false, _&&_, _||_}
 use mathlib.Core.List.{List}
 use Prim.Native.Nat.{ℕ, zero, suc, _+_, _-_, _≤_, _<_}
+use native.Mathlib.Decide.{decLt}
 use native.Mathlib.Omega.{arith}
 use lib.Dec.{eqb, ltb, leb}
 use lib.ListN.{length}
-use borrow.Author.Tests.{eqb-true, eq-eqb, ne-eqb, lt-ltb, ltb-true, leb-true, le-leb}
+use borrow.Author.Tests.{eqb-true, eq-eqb, ne-eqb, lt-ltb, ltb-true, leb-true, le-leb, lt-leb}
 use Rattle.sets.specs.Below.{all, any, first}
 use Rattle.sets.specs.Sets.{whole}
-use Rattle.sets.proofs.Tests.{bool, is-false, and-l, and-r, and-in}
+use Rattle.sets.proofs.Tests.{clash, bool, is-false, and-l, and-r, and-in, or-l, or-r}
 use Rattle.sets.proofs.Below.{all-in, all-out, all-same, any-in, first-lt, first-is, first-found}
-use Rattle.sheet_rows.specs.Rows.{linkFirst, linkCount, freq, ruleA, ruleB}
+use Rattle.sheet_rows.specs.Rows.{linkFirst, linkCount, freq}
 use Rattle.sheet.specs.Sheet.{kOf, nOf, qOf, tOf, linkPart, freqPart, rulePart, pairPart, mostKHz, freqOk, linkFreqsOk}
 use Rattle.sheet.specs.Sheet.{freqsOk, linksOk, rulesOk, pairsOk}
 use Rattle.sheet.specs.Refusal.{formOk, linkCountOk, countsOk, offsetsOk, passing, unless, sectionCause, refusal}
 use Rattle.sheet.proofs.Accepted.{accepted}
 use Rattle.rules.specs.Job.{Job}
 use Rattle.rules.specs.Layers.{layerOf, InLink}
-use Rattle.rules.specs.Pairs.{fits, joins}
+use Rattle.rules.specs.Pairs.{joins}
 use Rattle.rules.specs.Parts.{Parts}
-use Rattle.rules.specs.Plans.{placeOf, hasFreq, vertexOf, inLists, ruleKept, keeps, cellsOf, keepsJob, yesNo, checked}
-use Rattle.rules.proofs.Laws.{layer-of, layer-in, in-link-lt, vertex-in, listed-at, rule-links, parts-of}
+use Rattle.rules.specs.Plans.{placeOf, hasFreq, vertexOf, inLists, pairKept, linkKept, keeps, cellsOf, keepsJob}
+use Rattle.rules.specs.Plans.{yesNo, checked}
+use Rattle.rules.proofs.Laws.{layer-of, layer-in, in-link-lt, vertex-in, listed-at, parts-of}
+use Rattle.rules.proofs.Pairing.{joins-turned}
 use Rattle.cliques.specs.Graph.{Graph, Clique}
 use Rattle.cliques.specs.Listing.{byLayer}
 use Rattle.cliques.proofs.Listing.{clique-any, by-layer-clique, by-layer-at}
@@ -61,7 +64,8 @@ module _ {ls fs rs ps : List ℕ} {k n q t : ℕ} (P : Parts ls fs rs ps k n q t
       let r = rises l j (i - suc j) h (omega arith) in
       let e : j + suc (i - suc j) ≡ i = omega arith in
       let s = rw e at r in
-      let z = eqb-true (freq fs (linkFirst ls l + j)) (freq fs (linkFirst ls l + i)) (first-is i here u) in omega arith))
+      let z = eqb-true (freq fs (linkFirst ls l + j)) (freq fs (linkFirst ls l + i)) (first-is i here u) in
+      omega arith))
       (eq-eqb (freq fs (linkFirst ls l + i)) (freq fs (linkFirst ls l + i)) refl)
     where
       here : ℕ → Bool
@@ -96,28 +100,19 @@ module _ {ls fs rs ps : List ℕ} {k n q t : ℕ} (P : Parts ls fs rs ps k n q t
     pub there-back : (l : ℕ) → l < k → vertexOf ls fs l (freq fs (c l)) ≡ c l
     there-back l h = vertex-back l (c l) h (in-link l h) .0
 
-    clique-rule : (j : ℕ) → j < q → ruleKept ls fs rs ps (λ l. freq fs (c l)) j ≡ true
-    unfolding ruleKept joins fits
-    clique-rule j h =
-        let o = rule-links P j h in
-        let a = ruleA rs j in
-        let b = ruleB rs j in
-        let x : a < k = omega arith in
-        let y : b < k = o .1 in
+    clique-pair : (a b : ℕ) → a < k → b < k → (a ≡ b → ⊥) → pairKept ls fs rs ps q (λ l. freq fs (c l)) a b ≡ true
+    unfolding pairKept
+    clique-pair a b x y ne =
         let g = adjacent-out ls fs rs ps k n q (c a) (c b)
-        (C .joined a b (omega arith) x (omega arith) y (λ e. omega arith)) .allowed in
-        let r : joins ls fs rs ps q a b (c a) (c b) ≡ true =
-        rw (C .at a (omega arith) x .cl, C .at b (omega arith) y .cl) at g in
-        let s : fits ls fs rs ps a b (c a) (c b) j ≡ true =
-        and-l (fits ls fs rs ps a b (c a) (c b) j) (fits ls fs rs ps b a (c b) (c a) j)
-        (all-out q (λ m. fits ls fs rs ps a b (c a) (c b) m && fits ls fs rs ps b a (c b) (c a) m) r j h)
-        in
-        rw (there-back a x, there-back b y) (rw (eq-eqb a a refl, eq-eqb b b refl) at s)
+        (C .joined a b (omega arith) x (omega arith) y ne) .allowed in
+        rw (there-back a x, there-back b y) (rw (C .at a (omega arith) x .cl, C .at b (omega arith) y .cl) at g)
 
     pub clique-keeps : keeps ls fs rs ps k q (λ l. freq fs (c l)) ≡ true
-    unfolding keeps inLists
+    unfolding keeps inLists linkKept
     clique-keeps = and-in (all-in k _ (λ l h. vertex-back l (c l) h (in-link l h) .1))
-        (all-in q (ruleKept ls fs rs ps (λ l. freq fs (c l))) clique-rule)
+        (all-in k _ (λ a x. all-in k _ (λ b y. bool (leb b a)
+        (λ e. or-l (pairKept ls fs rs ps q (λ l. freq fs (c l)) a b) e)
+        (λ e. or-r (leb b a) (clique-pair a b x y (λ i. clash (leb b a) (le-leb b a (omega arith)) e))))))
 
   -- an assignment that keeps every rule: its vertices are a clique listed by layer, and its frequencies are those of
   -- the vertices
@@ -129,9 +124,12 @@ module _ {ls fs rs ps : List ℕ} {k n q t : ℕ} (P : Parts ls fs rs ps k n q t
     unfolding keeps
     kept-list l h = listed-at ls fs k f l (and-l (all k (inLists ls fs f)) _ K) h
 
-    kept-rule : (j : ℕ) → j < q → ruleKept ls fs rs ps f j ≡ true
-    unfolding keeps
-    kept-rule j h = all-out q (ruleKept ls fs rs ps f) (and-r (all k (inLists ls fs f)) _ K) j h
+    kept-pair : (a b : ℕ) → a < b → b < k → joins ls fs rs ps q a b (vs a) (vs b) ≡ true
+    unfolding keeps linkKept pairKept
+    kept-pair a b l h =
+        let x = all-out k (linkKept ls fs rs ps k q f) (and-r (all k (inLists ls fs f)) _ K) a (omega arith) in
+        let y = all-out k (λ b. leb b a || pairKept ls fs rs ps q f a b) x b h in
+        rw (lt-leb b a l) at y
 
     pub back-there : (l : ℕ) → l < k → freq fs (vs l) ≡ f l
     back-there l h = freq-back l (f l) (kept-list l h)
@@ -142,30 +140,25 @@ module _ {ls fs rs ps : List ℕ} {k n q t : ℕ} (P : Parts ls fs rs ps k n q t
     kept-lt : (l : ℕ) → l < k → vs l < n
     kept-lt l h = in-link-lt ls k n (P .links) l (vs l) h (vertex-in ls fs l (f l) (kept-list l h))
 
-    kept-fits : (i j r : ℕ) → r < q → fits ls fs rs ps i j (vs i) (vs j) r ≡ true
-    unfolding fits ruleKept
-    kept-fits i j r h = bool (eqb (ruleA rs r) i && eqb (ruleB rs r) j)
-        (λ e.
-        let a = eqb-true (ruleA rs r) i (and-l (eqb (ruleA rs r) i) _ e) in
-        let b = eqb-true (ruleB rs r) j (and-r (eqb (ruleA rs r) i) _ e) in
-        rw e (rw (a, b) at (kept-rule r h)))
-        (λ e. rw e)
+    kept-joins : (i j : ℕ) → i < k → j < k → (i ≡ j → ⊥) → Dec (i < j) → joins ls fs rs ps q i j (vs i) (vs j) ≡ true
+    kept-joins i j h g ne (yes l) = kept-pair i j l g
+    kept-joins i j h g ne (no l) = joins-turned ls fs rs ps q i j (vs i) (vs j) ne ∙ kept-pair j i (omega (arith, ne)) h
 
     pub keeps-clique : Clique G 0 (whole n) vs
-    unfolding joins whole
+    unfolding whole
     keeps-clique = record {
       at = λ l a h. record { lt = kept-lt l h; live = lt-ltb (vs l) n (kept-lt l h); cl = kept-layer l h };
       joined = λ i j a h b g ne. adjacent-in ls fs rs ps k n q (vs i) (vs j) (kept-lt i h) (kept-lt j g)
           (λ e. ne (sym (kept-layer i h) ∙ e ∙ kept-layer j g))
-          (rw (kept-layer i h, kept-layer j g) (all-in q _ (λ r l. and-in (kept-fits i j r l) (kept-fits j i r l))));
+          (rw (kept-layer i h, kept-layer j g) (kept-joins i j h g ne (decLt i j)));
     }
 
   -- only the first k entries of an assignment are read
   pub keeps-same : (f g : ℕ → ℕ) → ((l : ℕ) → l < k → f l ≡ g l) → keeps ls fs rs ps k q f ≡ keeps ls fs rs ps k q g
-  unfolding keeps inLists ruleKept
+  unfolding keeps inLists linkKept pairKept
   keeps-same f g h = ap₂ (λ a b. a && b)
       (all-same k _ _ (λ l i. ap (hasFreq ls fs l) (h l i)))
-      (all-same q _ _ (λ j i. let o = rule-links P j i in rw (h (ruleA rs j) (omega arith), h (ruleB rs j) (o .1))))
+      (all-same k _ _ (λ a i. all-same k _ _ (λ b l. rw (h a i, h b l))))
 
 module _ (job : Job) (ok : refusal (job .sheet) ≡ 0) where
   abbrev s : List ℕ

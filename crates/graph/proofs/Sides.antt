@@ -1,6 +1,6 @@
--- Laws of the two sides of a rule row: what it bars is what the pair test says, and what the strikes ask holds of an
+-- Laws of the two sides of a rule row: what it allows is what the pair test says, and what the strikes ask holds of an
 -- accepted sheet.
-use mathlib.Core.Path.{_≡_, sym, ap, _∙_}
+use mathlib.Core.Path.{_≡_, refl, sym, ap, _∙_}
 use mathlib.Core.Bool.{Bool, true, false, not, _&&_}
 use mathlib.Core.List.{List}
 use Prim.Native.Nat.{ℕ, _+_, _-_, _*_, _≤_, _<_}
@@ -9,23 +9,27 @@ use lib.Dec.{eqb, ltb}
 use lib.ListN.{length}
 use borrow.Author.Tests.{eqb-true, ltb-true, eq-eqb, le-leb}
 use Rattle.sets.specs.Sets.{_∩_, _∖_}
-use Rattle.sets.proofs.Tests.{clash, bool, and-l, and-r}
+use Rattle.sets.proofs.Tests.{clash, bool, is-false, not-in, and-l, and-r}
 use Rattle.sets.proofs.Below.{all-out}
 use Rattle.sheet_rows.specs.Rows.{linkFirst, linkCount, freq, ruleA, ruleB, ruleKind, ruleCount, ruleValue, pairFirst}
 use Rattle.sheet_rows.specs.Rows.{pairSecond}
 use Rattle.sheet.specs.Sheet.{listed, pairOk, rulePairsOk, pairsOk}
 use Rattle.sheet.proofs.Links.{link-in}
 use Rattle.sheet.proofs.Rules.{rule-in}
-use Rattle.rules.specs.Pairs.{distance, listsPair, agree, allows}
+use Rattle.rules.specs.Pairs.{distance, listsPair, agree, differ, allows}
 use Rattle.rules.specs.Parts.{Parts}
-use Rattle.rules.proofs.Laws.{rule-links, agree-plain}
+use Rattle.rules.proofs.Laws.{rule-links, agree-plain, agree-equal}
 use Rattle.graph.specs.declared.Side.{Side}
-use Rattle.graph.specs.Strikes.{stretch, sideOf, otherPlace, partners, clashing, barred, SideFits}
+use Rattle.graph.specs.Strikes.{stretch, sideOf, otherPlace, partners, clashing, allowed, SideFits}
 use Rattle.graph.proofs.Spans.{stretch-out}
 
 distance-turned : (x y : ℕ) → distance x y ≡ distance y x
 unfolding distance
 distance-turned x y = omega arith
+
+distance-same : (x : ℕ) → distance x x ≡ 0
+unfolding distance
+distance-same x = omega arith
 
 -- a test of the members of a stretch
 in-stretch : (a b : ℕ) (v : ℕ) (p q : Bool) → (a ≤ v → v < b → p ≡ q) → stretch a b v && p ≡ stretch a b v && q
@@ -47,54 +51,58 @@ agree-three : (kind value d : ℕ) (l : Bool) → kind ≡ 3 → agree kind valu
 unfolding agree
 agree-three kind value d l e = rw e
 
--- what a rule bars, vertex by vertex
-module _ (fs ps : List ℕ) (s : Side) (u v : ℕ) where
-  barred-three : eqb (s .kind) 3 ≡ true
-      → barred fs ps s u v ≡ stretch (s .first) (s .end) v
-      && not (partners ps (s .turned) (s .first) (u - s .from) (s .value) (s .count) v)
-  unfolding barred _∖_
-  barred-three e = rw e
+not-not : (b : Bool) → not (not b) ≡ b
+not-not true = refl
+not-not false = refl
 
-  barred-other : eqb (s .kind) 3 ≡ false
-      → barred fs ps s u v ≡ stretch (s .first) (s .end) v
-      && not (agree (s .kind) (s .value) (distance (freq fs u) (freq fs v)) false)
-  unfolding barred _∩_ clashing
-  barred-other e = rw e
+-- what a rule allows, vertex by vertex
+module _ (fs ps : List ℕ) (s : Side) (u v : ℕ) where
+  allowed-three : eqb (s .kind) 3 ≡ true
+      → allowed fs ps s u v ≡ stretch (s .first) (s .end) v
+      && partners ps (s .turned) (s .first) (u - s .from) (s .value) (s .count) v
+  unfolding allowed _∩_
+  allowed-three e = rw e
+
+  allowed-other : eqb (s .kind) 3 ≡ false
+      → allowed fs ps s u v ≡ stretch (s .first) (s .end) v
+      && agree (s .kind) (s .value) (distance (freq fs u) (freq fs v)) false
+  unfolding allowed _∖_ clashing
+  allowed-other e = rw (e, not-not (agree (s .kind) (s .value) (distance (freq fs u) (freq fs v)) false))
 
 module _ (ls fs rs ps : List ℕ) (j u v : ℕ) where
   -- rule row j from its link a, u being of a, and from its link b, u being of b
-  pub barred-a : barred fs ps (sideOf ls rs j false (ruleA rs j) (ruleB rs j)) u v
+  pub allowed-a : allowed fs ps (sideOf ls rs j false (ruleA rs j) (ruleB rs j)) u v
       ≡ stretch (linkFirst ls (ruleB rs j)) (linkFirst ls (ruleB rs j) + linkCount ls (ruleB rs j)) v
-      && not (allows ls fs rs ps j u v)
+      && allows ls fs rs ps j u v
   unfolding allows
-  barred-a =
+  allowed-a =
       let first = linkFirst ls (ruleB rs j) in
       let end = first + linkCount ls (ruleB rs j) in
       let d = distance (freq fs u) (freq fs v) in
       let s = sideOf ls rs j false (ruleA rs j) (ruleB rs j) in
       bool (eqb (ruleKind rs j) 3)
-      (λ e. barred-three fs ps s u v e ∙ in-stretch first end v _ _ (λ l h.
-      ap not (lists-a ps first (u - linkFirst ls (ruleA rs j)) (ruleValue rs j) (ruleCount rs j) v l
-      ∙ sym (agree-three (ruleKind rs j) (ruleValue rs j) d _ (eqb-true _ _ e)))))
-      (λ e. barred-other fs ps s u v e ∙ in-stretch first end v _ _ (λ l h.
-      ap not (agree-plain (ruleKind rs j) (ruleValue rs j) d _ _ (λ q. clash (eqb (ruleKind rs j) 3) (eq-eqb _ _ q) e))))
+      (λ e. allowed-three fs ps s u v e ∙ in-stretch first end v _ _ (λ l h.
+      lists-a ps first (u - linkFirst ls (ruleA rs j)) (ruleValue rs j) (ruleCount rs j) v l
+      ∙ sym (agree-three (ruleKind rs j) (ruleValue rs j) d _ (eqb-true _ _ e))))
+      (λ e. allowed-other fs ps s u v e ∙ in-stretch first end v _ _ (λ l h.
+      agree-plain (ruleKind rs j) (ruleValue rs j) d _ _ (λ q. clash (eqb (ruleKind rs j) 3) (eq-eqb _ _ q) e)))
 
-  pub barred-b : barred fs ps (sideOf ls rs j true (ruleB rs j) (ruleA rs j)) u v
+  pub allowed-b : allowed fs ps (sideOf ls rs j true (ruleB rs j) (ruleA rs j)) u v
       ≡ stretch (linkFirst ls (ruleA rs j)) (linkFirst ls (ruleA rs j) + linkCount ls (ruleA rs j)) v
-      && not (allows ls fs rs ps j v u)
+      && allows ls fs rs ps j v u
   unfolding allows
-  barred-b =
+  allowed-b =
       let first = linkFirst ls (ruleA rs j) in
       let end = first + linkCount ls (ruleA rs j) in
       let d = distance (freq fs v) (freq fs u) in
       let s = sideOf ls rs j true (ruleB rs j) (ruleA rs j) in
       bool (eqb (ruleKind rs j) 3)
-      (λ e. barred-three fs ps s u v e ∙ in-stretch first end v _ _ (λ l h.
-      ap not (lists-b ps first (u - linkFirst ls (ruleB rs j)) (ruleValue rs j) (ruleCount rs j) v l
-      ∙ sym (agree-three (ruleKind rs j) (ruleValue rs j) d _ (eqb-true _ _ e)))))
-      (λ e. barred-other fs ps s u v e ∙ in-stretch first end v _ _ (λ l h.
-      ap not (ap (λ (x : ℕ). agree (ruleKind rs j) (ruleValue rs j) x false) (distance-turned (freq fs u) (freq fs v))
-      ∙ agree-plain (ruleKind rs j) (ruleValue rs j) d _ _ (λ q. clash (eqb (ruleKind rs j) 3) (eq-eqb _ _ q) e))))
+      (λ e. allowed-three fs ps s u v e ∙ in-stretch first end v _ _ (λ l h.
+      lists-b ps first (u - linkFirst ls (ruleB rs j)) (ruleValue rs j) (ruleCount rs j) v l
+      ∙ sym (agree-three (ruleKind rs j) (ruleValue rs j) d _ (eqb-true _ _ e))))
+      (λ e. allowed-other fs ps s u v e ∙ in-stretch first end v _ _ (λ l h.
+      ap (λ (x : ℕ). agree (ruleKind rs j) (ruleValue rs j) x false) (distance-turned (freq fs u) (freq fs v))
+      ∙ agree-plain (ruleKind rs j) (ruleValue rs j) d _ _ (λ q. clash (eqb (ruleKind rs j) 3) (eq-eqb _ _ q) e)))
 
 module _ {ls fs rs ps : List ℕ} {k n q t : ℕ} (P : Parts ls fs rs ps k n q t) (j : ℕ) (b : j < q) where
   -- both sides of the rule meet what the strikes ask
@@ -119,6 +127,18 @@ module _ {ls fs rs ps : List ℕ} {k n q t : ℕ} (P : Parts ls fs rs ps k n q t
         ltb-true (pairFirst ps y) m (and-l (ltb (pairFirst ps y) m) _ z),
         ltb-true (pairSecond ps y) o (and-r (ltb (pairFirst ps y) m) _ z),
       )
+
+  -- what a rule of kind 1 or 2 allows differs in frequency
+  pub allows-differ : (u v : ℕ) → (ruleKind rs j ≡ 3 → ⊥) → allows ls fs rs ps j u v ≡ true → differ fs u v ≡ true
+  unfolding allows differ
+  allows-differ u v ne h = not-in (is-false (eqb (freq fs u) (freq fs v)) (λ e.
+      let x = eqb-true (freq fs u) (freq fs v) e in
+      let z = rw (
+        agree-plain (ruleKind rs j) (ruleValue rs j) (distance (freq fs u) (freq fs v)) _ false ne,
+        x,
+        distance-same (freq fs v),
+      ) at h in
+      clash _ z (agree-equal (ruleKind rs j) (ruleValue rs j) ne (rule-in rs k q t j (P .rules) b .plain ne))))
 
   pub fits-a : SideFits fs ps n (sideOf ls rs j false (ruleA rs j) (ruleB rs j))
   unfolding otherPlace

@@ -3,7 +3,7 @@ use mathlib.Core.Path.{_≡_, refl, sym, ap, _∙_, fun-ext}
 use mathlib.Core.Bool.{Bool, true, false, not, _&&_, _||_}
 use mathlib.Core.List.{List}
 use Prim.Native.Nat.{ℕ, _+_, _≤_, _<_}
-use native.Mathlib.Decide.{ℕ-discrete}
+use native.Mathlib.Decide.{ℕ-discrete, decLt}
 use native.Mathlib.Omega.{arith}
 use lib.Dec.{eqb, leb}
 use borrow.Author.Tests.{eqb-true, ltb-true, leb-true, eq-eqb, ne-eqb, lt-ltb, le-leb}
@@ -77,18 +77,27 @@ cut-cut S A B = fun-ext (λ v. go (S v) (A v) (B v))
     go true false b = refl
     go false a b = refl
 
--- what is cut and put back in part
-pub cut-back : (S A B : Set) → B ⊆ A → A ⊆ S → (S ∖ A) ∪ B ≡ S ∖ (A ∖ B)
-unfolding _∪_ _∖_
-cut-back S A B f g = fun-ext (λ v. go (S v) (A v) (B v) (f v) (g v))
+-- what is cut in part, where the rest of the part is there
+pub cut-part : (S A C : Set) → A ∖ C ⊆ S → S ∖ (A ∩ C) ≡ (S ∖ A) ∪ (A ∖ C)
+unfolding _∪_ _∩_ _∖_
+cut-part S A C f = fun-ext (λ v. go (S v) (A v) (C v) (f v))
   where
-    go : (s a b : Bool) → (b ≡ true → a ≡ true) → (a ≡ true → s ≡ true) → (s && not a) || b ≡ s && not (a && not b)
-    go true true true f g = refl
-    go true true false f g = refl
-    go true false b f g = refl
-    go false true b f g = clash false (g refl) refl
-    go false false true f g = clash false (f refl) refl
-    go false false false f g = refl
+    go : (s a c : Bool) → (a && not c ≡ true → s ≡ true) → s && not (a && c) ≡ (s && not a) || (a && not c)
+    go true true true f = refl
+    go true true false f = refl
+    go true false c f = refl
+    go false true true f = refl
+    go false true false f = clash false (f refl) refl
+    go false false c f = refl
+
+pub meet-inside : (A B : Set) → B ⊆ A → B ≡ A ∩ B
+unfolding _∩_
+meet-inside A B f = fun-ext (λ v. go (A v) (B v) (f v))
+  where
+    go : (a b : Bool) → (b ≡ true → a ≡ true) → b ≡ a && b
+    go true b f = refl
+    go false true f = clash false (f refl) refl
+    go false false f = refl
 
 pub none-meet : (F : Set) → nothing ∩ F ≡ nothing
 unfolding nothing _∩_
@@ -174,3 +183,30 @@ struck-yes {w} {to} {p} v F h P = put-as (ap (λ (X : Set). setAt p w to ∖ X) 
 pub struck-no : (w to v : ℕ) (F : Set) (p : List ℕ) → F v ≡ false → Put (setAt p w to ∖ (just v ∩ F)) w to p p
 struck-no w to v F p h = put-as (sym (ap (λ (X : Set). setAt p w to ∖ X) (just-no v F h) ∙ cut-none (setAt p w to)))
     (put-none w to p)
+
+-- the vertices from v to w that do not pass are passed over
+pub struck-past : {p q : List ℕ} {w to : ℕ} (a v x : ℕ) (F : Set) → v ≤ x
+    → ((i : ℕ) → v ≤ i → i < x → F i ≡ false)
+    → Put (setAt p w to ∖ (stretch a v ∩ F)) w to p q → Put (setAt p w to ∖ (stretch a x ∩ F)) w to p q
+unfolding _∩_
+struck-past {p} {w = w} {to = to} a v x F l h P = put-as (ap (λ (X : Set). setAt p w to ∖ X) (fun-ext same)) P
+  where
+    same : (i : ℕ) → stretch a v i && F i ≡ stretch a x i && F i
+    same i = iff _ _
+        (λ e. let o = stretch-out a v i (and-l (stretch a v i) _ e) in
+        and-in (stretch-in a x i (o .0) (omega arith)) (and-r (stretch a v i) _ e))
+        (λ e. let o = stretch-out a x i (and-l (stretch a x i) _ e) in let f = and-r (stretch a x i) _ e in
+        inside i (o .0) (o .1) f (decLt i v))
+      where
+        inside : (i : ℕ) → a ≤ i → i < x → F i ≡ true → Dec (i < v) → (stretch a v i && F i) ≡ true
+        inside i b c f (yes d) = and-in (stretch-in a v i b d) f
+        inside i b c f (no d) = clash (F i) f (h i (omega arith) c)
+
+-- two tests that agree at the vertex
+pub just-same : (v : ℕ) (F G : Set) → F v ≡ G v → just v ∩ F ≡ just v ∩ G
+unfolding just _∩_
+just-same v F G h = fun-ext (λ x. go x (ℕ-discrete x v))
+  where
+    go : (x : ℕ) → Dec (x ≡ v) → eqb x v && F x ≡ eqb x v && G x
+    go x (yes e) = rw (e, h)
+    go x (no n) = rw (ne-eqb x v n)

@@ -1,9 +1,9 @@
--- Laws of what a rule row strikes: the partners by its pairs, and rows that are struck one after another.
+-- Laws of what a rule row leaves: the partners by its pairs, a row under the rule, and rows written one after another.
 use mathlib.Core.Path.{_≡_, refl, sym, ap, _∙_, fun-ext}
 use mathlib.Core.Bool.{Bool, true, false, cond, _&&_, _||_}
 use mathlib.Core.List.{List}
 use Prim.Native.Nat.{ℕ, _+_, _-_, _*_, _≤_, _<_}
-use native.Mathlib.Decide.{ℕ-discrete, decLt}
+use native.Mathlib.Decide.{decLt}
 use native.Mathlib.Omega.{arith}
 use native.Mathlib.Numerals.{add-one}
 use borrow.Author.Tests.{eqb-true, eq-eqb, ne-eqb, leb-true, le-leb}
@@ -18,8 +18,10 @@ use Rattle.rules.specs.Pairs.{samePair, listsPair}
 use Rattle.rows.specs.Rows.{setAt, rowAt, Outside, Put}
 use Rattle.rows.proofs.Rows.{row-inside, outside-none, outside-then, outside-wide, above, below}
 use Rattle.graph.specs.declared.Side.{Side}
-use Rattle.graph.specs.Strikes.{stretch, ownPlace, otherPlace, partner, partners, clashing, barred, Struck}
-use Rattle.graph.proofs.Spans.{stretch-in, none-join, join-none, cut-back, put-none, put-as, put-then}
+use Rattle.graph.specs.Strikes.{stretch, ownPlace, otherPlace, partner, partners, clashing, allowed}
+use Rattle.graph.specs.Strikes.{underRule, PairsFit, Rewritten}
+use Rattle.graph.proofs.Spans.{stretch-in, none-join, join-none, cut-part, meet-inside, put-none, put-as}
+use Rattle.graph.proofs.Spans.{put-then}
 
 -- partners
 
@@ -137,67 +139,78 @@ partners-in ps turned first x base m end h v e =
     let o = other-of ps turned x (v - first) base m (and-r (leb first v) _ e) in
     stretch-in first end v l (omega (arith, h (o .0) (o .1), o .2))
 
--- the other link's vertices struck, and the partners put back
-pub unlisted-put : {w to : ℕ} {p q r : List ℕ} (A B : Set) → B ⊆ A → A ⊆ setAt p w to → Put (setAt p w to ∖ A) w to p q
+-- the other link's vertices taken, and the partners written
+pub listed-put : {w to : ℕ} {p q r : List ℕ} (A B : Set) → Put (setAt p w to ∖ A) w to p q
     → Put (setAt q w to ∪ B) w to q r
-    → Put (setAt p w to ∖ (A ∖ B)) w to p r
-unlisted-put {w} {to} {p} A B f g P Q = put-then (λ S. S ∪ B) P Q (cut-back (setAt p w to) A B f g)
+    → Put ((setAt p w to ∖ A) ∪ B) w to p r
+listed-put A B P Q = put-then (λ S. S ∪ B) P Q refl
 
 -- a stretch put into an empty row
 pub stretch-put : {w to : ℕ} {p q r : List ℕ} (a b : ℕ) → Put nothing w to p q
     → Put (setAt q w to ∪ stretch a b) w to q r → Put (stretch a b) w to p r
 stretch-put a b P Q = put-then (λ S. S ∪ stretch a b) P Q (none-join (stretch a b))
 
--- what a rule bars, by its kind
-pub barred-listed : (fs ps : List ℕ) (s : Side) (u : ℕ) → s .kind ≡ 3
-    → stretch (s .first) (s .end) ∖ partners ps (s .turned) (s .first) (u - s .from) (s .value) (s .count)
-    ≡ barred fs ps s u
-unfolding barred
-barred-listed fs ps s u e = rw (eq-eqb (s .kind) 3 e)
+-- a row under a rule, by its kind
+pub ruled-listed : (fs ps : List ℕ) (s : Side) (u : ℕ) (S : Set) → s .kind ≡ 3 → PairsFit ps s
+    → (S ∖ stretch (s .first) (s .end)) ∪ partners ps (s .turned) (s .first) (u - s .from) (s .value) (s .count)
+    ≡ underRule fs ps s u S
+unfolding allowed
+ruled-listed fs ps s u S e f = rw (eq-eqb (s .kind) 3 e)
+    (ap (λ (X : Set). (S ∖ stretch (s .first) (s .end)) ∪ X)
+    (meet-inside (stretch (s .first) (s .end)) _
+    (partners-in ps (s .turned) (s .first) (u - s .from) (s .value) (s .count) (s .end) (λ i h. f i h .1))))
 
-pub barred-plain : (fs ps : List ℕ) (s : Side) (u : ℕ) → (s .kind ≡ 3 → ⊥)
-    → stretch (s .first) (s .end) ∩ clashing fs (s .kind) (s .value) (freq fs u) ≡ barred fs ps s u
-unfolding barred
-barred-plain fs ps s u e = rw (ne-eqb (s .kind) 3 e)
+pub ruled-plain : (fs ps : List ℕ) (s : Side) (u : ℕ) (S : Set) → (s .kind ≡ 3 → ⊥) → allowed fs ps s u ⊆ S
+    → S ∖ (stretch (s .first) (s .end) ∩ clashing fs (s .kind) (s .value) (freq fs u)) ≡ underRule fs ps s u S
+unfolding allowed
+ruled-plain fs ps s u S e f =
+    let g = rw (ne-eqb (s .kind) 3 e) at f in
+    rw (ne-eqb (s .kind) 3 e) (cut-part S _ _ g)
 
--- rows struck one after another
+-- a row written leaves the others
+pub others-same : {w : ℕ} {S : Set} {p q : List ℕ} (graph u at : ℕ) → at ≡ graph + u * w → Put S w at p q → (x : ℕ)
+    → (x ≡ u → ⊥)
+    → rowAt q w graph x ≡ rowAt p w graph x
+others-same {w} {S} {p} {q} graph u at here P x ne = go (decLt x u) (decLt u x)
+  where
+    go : Dec (x < u) → Dec (u < x) → rowAt q w graph x ≡ rowAt p w graph x
+    go (yes d) e = let i = row-inside x u w d in below (P .rest) w (graph + x * w) (omega arith)
+    go (no d) (yes e) = let i = row-inside u x w e in above (P .rest) w (graph + x * w) (omega arith)
+    go (no d) (no e) = absurd (ne (omega arith))
 
-module _ (F : ℕ → Set) (w graph n : ℕ) where
-  pub rows-none : (lo : ℕ) (p : List ℕ) → Struck F lo lo w graph n p p
+-- rows written one after another
+
+module _ (f : ℕ → Set → Set) (w graph n : ℕ) where
+  pub rows-none : (lo : ℕ) (p : List ℕ) → Rewritten f lo lo w graph n p p
   rows-none lo p = record { rows = λ x a b. absurd (omega arith); others = λ x l h. refl; rest = outside-none _ _ p }
 
-  pub rows-more : {p q r : List ℕ} (lo u : ℕ) → lo ≤ u → u < n → Struck F lo u w graph n p q
-      → Struck F u (u + 1) w graph n q r
-      → Struck F lo (u + 1) w graph n p r
-  rows-more {p} {q} {r} lo u a b P Q = record {
-    rows = λ x l h. go x l h (ℕ-discrete x u);
+  pub rows-join : {p q r : List ℕ} (lo m hi : ℕ) → lo ≤ m → m ≤ hi → hi ≤ n → Rewritten f lo m w graph n p q
+      → Rewritten f m hi w graph n q r
+      → Rewritten f lo hi w graph n p r
+  rows-join {p} {q} {r} lo m hi a b c P Q = record {
+    rows = λ x l h. go x l h (decLt x m);
     others = λ x l h. Q .others x l (λ d e. h (omega arith) e) ∙ P .others x l (λ d e. h d (omega arith));
     rest = outside-then (P .rest) (Q .rest);
   }
     where
-      go : (x : ℕ) → lo ≤ x → x < u + 1 → Dec (x ≡ u) → rowAt r w graph x ≡ rowAt p w graph x ∖ F x
-      go x l h (yes e) = Q .rows x (omega arith) h ∙ ap (λ (X : Set). X ∖ F x)
-          (P .others x (omega arith) (λ d g. omega arith))
-      go x l h (no e) = Q .others x (omega arith) (λ d g. e (omega arith)) ∙ P .rows x l (omega arith)
+      go : (x : ℕ) → lo ≤ x → x < hi → Dec (x < m) → rowAt r w graph x ≡ f x (rowAt p w graph x)
+      go x l h (yes e) = Q .others x (omega arith) (λ d g. omega arith) ∙ P .rows x l e
+      go x l h (no e) = Q .rows x (omega arith) h ∙ ap (f x) (P .others x (omega arith) (λ d g. omega arith))
+
+  pub rows-as : {p q : List ℕ} (g : ℕ → Set → Set) {lo hi : ℕ}
+      → ((x : ℕ) → lo ≤ x → x < hi → f x (rowAt p w graph x) ≡ g x (rowAt p w graph x))
+      → Rewritten f lo hi w graph n p q → Rewritten g lo hi w graph n p q
+  rows-as g e R = record { rows = λ x a b. R .rows x a b ∙ e x a b; others = R .others; rest = R .rest }
 
   -- one row written
   module _ (u at : ℕ) (b : u < n) (here : at ≡ graph + u * w) where
-    others-same : {S : Set} {p q : List ℕ} → Put S w at p q → (x : ℕ) → x < n → (u ≤ x → x < u + 1 → ⊥)
-        → rowAt q w graph x ≡ rowAt p w graph x
-    others-same {S} {p} {q} P x l h = go (decLt x u) (decLt u x)
-      where
-        go : Dec (x < u) → Dec (u < x) → rowAt q w graph x ≡ rowAt p w graph x
-        go (yes d) e = let i = row-inside x u w d in below (P .rest) w (graph + x * w) (omega arith)
-        go (no d) (yes e) = let i = row-inside u x w e in above (P .rest) w (graph + x * w) (omega arith)
-        go (no d) (no e) = absurd (h (omega arith) (omega arith))
-
     row-rest : {S : Set} {p q : List ℕ} → Put S w at p q → Outside graph (graph + n * w) p q
     row-rest P = let i = row-inside u n w b in outside-wide graph (graph + n * w) (omega arith) (omega arith) (P .rest)
 
-    pub row-struck : {p q : List ℕ} → Put (setAt p w at ∖ F u) w at p q → Struck F u (u + 1) w graph n p q
-    row-struck {p} {q} P = record {
+    pub row-written : {p q : List ℕ} → Put (f u (setAt p w at)) w at p q → Rewritten f u (u + 1) w graph n p q
+    row-written {p} {q} P = record {
       rows = λ x d e. let i : x ≡ u = omega arith in let P′ : setAt q w (graph + u * w)
-          ≡ setAt p w (graph + u * w) ∖ F u = rw here at (P .here) in rw i P′;
-      others = others-same P;
+          ≡ f u (setAt p w (graph + u * w)) = rw here at (P .here) in rw i P′;
+      others = λ x l h. others-same graph u at here P x (λ e. h (omega arith) (omega arith));
       rest = row-rest P;
     }

@@ -1,7 +1,7 @@
 -- The graph of a job, its microstructure. "Vertex v is the v-th frequency of the sheet, from 0; a link's vertices form
 -- its layer."
 use mathlib.Core.Bool.{Bool, not, _&&_}
-use mathlib.Core.List.{List, []}
+use mathlib.Core.List.{List}
 use Prim.Native.Nat.{ℕ}
 use lib.Dec.{ltb, eqb}
 use Rattle.sheet.specs.Sheet.{kOf, nOf, qOf, linkPart, freqPart, rulePart, pairPart}
@@ -10,16 +10,15 @@ use Rattle.rules.specs.Layers.{layerOf}
 use Rattle.rules.specs.Pairs.{joins}
 use Rattle.cliques.specs.Graph.{Graph}
 
--- "Two vertices are adjacent when their links differ and the rule of the links, if any, allows the pair"; over the
--- sheet's sections, with k links, n vertices and q rules
+-- u and v are among the n vertices, "their links differ"
+unfoldable pub linksDiffer : List ℕ → ℕ → ℕ → ℕ → ℕ → Bool
+linksDiffer ls k n u v = (ltb u n && ltb v n) && not (eqb (layerOf ls k u) (layerOf ls k v))
+
+-- "Two vertices are adjacent when their links differ and the rule of the links, if any, allows the pair", which is what
+-- the pair test says; over the sheet's sections, with k links, n vertices and q rules
 unfoldable pub adjacent : List ℕ → List ℕ → List ℕ → List ℕ → ℕ → ℕ → ℕ → ℕ → ℕ → Bool
 adjacent ls fs rs ps k n q u v =
-    (ltb u n && ltb v n) && (not (eqb (layerOf ls k u) (layerOf ls k v))
-    && joins ls fs rs ps q (layerOf ls k u) (layerOf ls k v) u v)
-
--- "adjacent when their links differ", before any rule
-abbrev pub unruled : List ℕ → ℕ → ℕ → ℕ → ℕ → Bool
-unruled ls k n = adjacent ls [] [] [] k n 0
+    linksDiffer ls k n u v && joins ls fs rs ps q (layerOf ls k u) (layerOf ls k v) u v
 
 -- the layer of a vertex, and adjacency, of a job
 abbrev pub layer : Job → ℕ → ℕ

@@ -1,3 +1,4 @@
+pub mod Buckets
 pub mod Graph
 pub mod Matches
 pub mod Rows

@@ -1,11 +1,11 @@
--- What one rule row strikes from the rows of one of its links: vertices of its other link.
+-- What one rule row leaves in the rows of one of its links: of its other link, the vertices that it allows.
 use mathlib.Core.Path.{_≡_}
 use mathlib.Core.Bool.{Bool, false, not, cond, _&&_}
 use mathlib.Core.List.{List}
 use Prim.Native.Nat.{ℕ, _+_, _-_, _*_, _≤_, _<_}
 use lib.Dec.{ltb, leb, eqb}
 use lib.ListN.{length}
-use Rattle.sets.specs.Sets.{Set, _⊆_, _∩_, _∖_}
+use Rattle.sets.specs.Sets.{Set, _⊆_, _∩_, _∪_, _∖_}
 use Rattle.sheet_rows.specs.Rows.{freqBytes, pairBytes, linkFirst, linkCount, freq, ruleKind, ruleCount, ruleValue}
 use Rattle.sheet_rows.specs.Rows.{pairFirst, pairSecond}
 use Rattle.rules.specs.Pairs.{distance, samePair, listsPair, agree}
@@ -37,8 +37,8 @@ ownPlace ps turned i = cond turned (pairSecond ps i) (pairFirst ps i)
 unfoldable pub otherPlace : List ℕ → Bool → ℕ → ℕ
 otherPlace ps turned i = cond turned (pairFirst ps i) (pairSecond ps i)
 
--- "Kind 3: only listed pairs are allowed": the partners that m pair rows from `base` on give position x, in the link that
--- begins at `first`. The pair of positions is listed, the lower link's first
+-- "Kind 3: only listed pairs are allowed": the partners that m pair rows from `base` on give position x, in the link
+-- that begins at `first`. The pair of positions is listed, the lower link's first
 unfoldable pub partners : List ℕ → Bool → ℕ → ℕ → ℕ → ℕ → Set
 partners ps turned first x base m v =
     leb first v && cond turned (listsPair ps base m (v - first) x) (listsPair ps base m x (v - first))
@@ -52,17 +52,22 @@ partner ps turned first x i v = leb first v && cond turned (samePair ps (v - fir
 unfoldable pub clashing : List ℕ → ℕ → ℕ → ℕ → Set
 clashing fs kind value x v = not (agree kind value (distance x (freq fs v)) false)
 
--- the vertices of the other link that the rule bars with u
-unfoldable pub barred : List ℕ → List ℕ → Side → ℕ → Set
-barred fs ps s u =
-    cond (eqb (s .kind) 3) (stretch (s .first) (s .end) ∖ partners ps (s .turned) (s .first) (u - s .from) (s .value)
-    (s .count))
-    (stretch (s .first) (s .end) ∩ clashing fs (s .kind) (s .value) (freq fs u))
+-- the vertices of the other link that the rule allows with u
+unfoldable pub allowed : List ℕ → List ℕ → Side → ℕ → Set
+allowed fs ps s u =
+    cond (eqb (s .kind) 3)
+    (stretch (s .first) (s .end) ∩ partners ps (s .turned) (s .first) (u - s .from) (s .value) (s .count))
+    (stretch (s .first) (s .end) ∖ clashing fs (s .kind) (s .value) (freq fs u))
+
+-- row u under the rule: of the other link just these
+abbrev pub underRule : List ℕ → List ℕ → Side → ℕ → Set → Set
+underRule fs ps s u S = (S ∖ stretch (s .first) (s .end)) ∪ allowed fs ps s u
 
 -- the pairs are there, and name vertices of the other link
 abbrev pub PairsFit : List ℕ → Side → Type 0
 PairsFit ps s = (i : ℕ) → i < s .count →
-    (pairBytes * (s .value + i) + pairBytes ≤ length ps) × (s .first + otherPlace ps (s .turned) (s .value + i) < s .end)
+    (pairBytes * (s .value + i) + pairBytes ≤ length ps)
+    × (s .first + otherPlace ps (s .turned) (s .value + i) < s .end)
 
 -- the vertices of both links are among n, and so are those that the pairs name
 pub record SideFits (fs ps : List ℕ) (n : ℕ) (s : Side) : Type 0 where
@@ -72,12 +77,13 @@ pub record SideFits (fs ps : List ℕ) (n : ℕ) (s : Side) : Type 0 where
   pub other : s .end ≤ n
   pub pairs : s .kind ≡ 3 → PairsFit ps s
 
--- each row of the link that is struck has every vertex of the other link
-pub record Full (s : Side) (w graph : ℕ) (p : List ℕ) : Type 0 where
-  pub row : (u : ℕ) → s .from ≤ u → u < s .upto → stretch (s .first) (s .end) ⊆ rowAt p w graph u
+-- each row of the link that is struck has every vertex of the other link that a rule of kind 1 or 2 allows: such a rule
+-- strikes, where one of kind 3 writes the other link's part of a row anew
+pub record Full (fs ps : List ℕ) (s : Side) (w graph : ℕ) (p : List ℕ) : Type 0 where
+  pub row : (s .kind ≡ 3 → ⊥) → (u : ℕ) → s .from ≤ u → u < s .upto → allowed fs ps s u ⊆ rowAt p w graph u
 
--- from each row x from lo up to hi the set F x is struck, and nothing but the rows has changed
-pub record Struck (F : ℕ → Set) (lo hi w graph n : ℕ) (p p′ : List ℕ) : Type 0 where
-  pub rows : (x : ℕ) → lo ≤ x → x < hi → rowAt p′ w graph x ≡ rowAt p w graph x ∖ F x
+-- each row x from lo up to hi has become f x of what it was, and nothing but these rows has changed
+pub record Rewritten (f : ℕ → Set → Set) (lo hi w graph n : ℕ) (p p′ : List ℕ) : Type 0 where
+  pub rows : (x : ℕ) → lo ≤ x → x < hi → rowAt p′ w graph x ≡ f x (rowAt p w graph x)
   pub others : (x : ℕ) → x < n → (lo ≤ x → x < hi → ⊥) → rowAt p′ w graph x ≡ rowAt p w graph x
   pub rest : Outside graph (graph + n * w) p p′

@@ -1,4 +1,4 @@
-// What a rule row bars is struck from the rows of its links.
+// What a rule row bars is struck from the rows of its links, or what it lists is written to them.
 ghost use mathlib.Core.Path.{_≡_};
 ghost use Prim.Native.Nat.{_+_, _-_, _*_, _^_, _<_, _≤_};
 ghost use lib.ListN.{length};
@@ -6,8 +6,9 @@ ghost use Rattle.sets.specs.Sets.{_⊆_, _∩_, _∪_, _∖_, just};
 ghost use Rattle.sheet_rows.specs.Rows.{freqBytes, linkBytes, ruleBytes, pairBytes};
 ghost use Rattle.rows.specs.Rows.{setAt, rowAt, Put};
 ghost use Rattle.graph.specs.Rows.{RowsFit};
-ghost use Rattle.graph.specs.Strikes.{stretch, sideOf, ownPlace, otherPlace, partner, partners, clashing, barred};
-ghost use Rattle.graph.specs.Strikes.{PairsFit, SideFits, Full, Struck};
+ghost use Rattle.graph.specs.Strikes.{stretch, sideOf, ownPlace, otherPlace, partner, partners, clashing};
+ghost use Rattle.graph.specs.Strikes.{allowed};
+ghost use Rattle.graph.specs.Strikes.{underRule, PairsFit, SideFits, Full, Rewritten};
 use crate::Side;
 use crate::span::take_span;
 use cliques::Place;
@@ -126,14 +127,14 @@ fn add_partner(
     rows::insert(part, w, to, first + other_place(ps, turned, i));
 }
 
-// Row `to` has every vertex of the other link; those are struck that no pair row of the rule, of kind 3, gives
-// position x as a partner.
-fn strike_unlisted(part: &mut [u64], w: usize, to: usize, ps: &[u8], s: Side, x: usize)
+// Row `to` gets of the other link just the partners that the pair rows of the rule, of kind 3, give position x. A
+// listed pair may be on one frequency.
+fn write_listed(part: &mut [u64], w: usize, to: usize, ps: &[u8], s: Side, x: usize)
     requires { ⌜ PairsFit (now ps) s × (s .first ≤ s .end) × (s .end ≤ 64 * w) × (64 * w < 2 ^ 64)
-        × (to + w ≤ length (now part)) × (stretch (s .first) (s .end) ⊆ setAt (now part) w to) ⌝ }
+        × (to + w ≤ length (now part)) ⌝ }
     ensures { λ r. ⌜ Put
-        (setAt (now (part .entry)) w to ∖ (stretch (s .first) (s .end)
-        ∖ partners (now (ps .entry)) (s .turned) (s .first) x (s .value) (s .count)))
+        ((setAt (now (part .entry)) w to ∖ stretch (s .first) (s .end))
+        ∪ partners (now (ps .entry)) (s .turned) (s .first) x (s .value) (s .count))
         w to (now (part .entry)) (now (part .exit)) ⌝ }
 {
     let value = s.value;
@@ -149,35 +150,35 @@ fn strike_unlisted(part: &mut [u64], w: usize, to: usize, ps: &[u8], s: Side, x:
     }
 }
 
-// Row u is struck: a rule of kind 3 by its pairs, any other by the frequencies.
-fn strike_row(part: &mut [u64], place: Place, fs: &[u8], ps: &[u8], s: Side, u: usize)
+// Row u under the rule: one of kind 3 by its pairs, any other by the frequencies.
+fn rule_row(part: &mut [u64], place: Place, fs: &[u8], ps: &[u8], s: Side, u: usize)
     requires { ⌜ SideFits (now fs) (now ps) (place .n) s
         × RowsFit (place .w) (place .graph) (place .n) (length (now part)) × (s .from ≤ u) × (u < place .n)
-        × (stretch (s .first) (s .end) ⊆ rowAt (now part) (place .w) (place .graph) u) ⌝ }
-    ensures { λ r. ⌜ Struck (barred (now (fs .entry)) (now (ps .entry)) s) u (u + 1)
+        × ((s .kind ≡ 3 → ⊥) → allowed (now fs) (now ps) s u ⊆ rowAt (now part) (place .w) (place .graph) u) ⌝ }
+    ensures { λ r. ⌜ Rewritten (underRule (now (fs .entry)) (now (ps .entry)) s) u (u + 1)
         (place .w) (place .graph) (place .n) (now (part .entry)) (now (part .exit)) ⌝ }
 {
     let w = place.w;
     let row = rows::row_at(place.graph, w, u, place.n);
     let kind = s.kind;
     if kind == 3 {
-        strike_unlisted(part, w, row, ps, s, u - s.from);
+        write_listed(part, w, row, ps, s, u - s.from);
         return;
     }
     strike_near(part, w, row, fs, s, freq(fs, u));
 }
 
-// The rows of one of the rule's links are struck.
-pub fn strike_side(part: &mut [u64], place: Place, fs: &[u8], ps: &[u8], s: Side)
+// The rows of one of the rule's links under it.
+pub fn rule_side(part: &mut [u64], place: Place, fs: &[u8], ps: &[u8], s: Side)
     requires { ⌜ SideFits (now fs) (now ps) (place .n) s
         × RowsFit (place .w) (place .graph) (place .n) (length (now part))
-        × (s .from ≤ s .upto) × Full s (place .w) (place .graph) (now part) ⌝ }
-    ensures { λ r. ⌜ Struck (barred (now (fs .entry)) (now (ps .entry)) s) (s .from) (s .upto)
+        × (s .from ≤ s .upto) × Full (now fs) (now ps) s (place .w) (place .graph) (now part) ⌝ }
+    ensures { λ r. ⌜ Rewritten (underRule (now (fs .entry)) (now (ps .entry)) s) (s .from) (s .upto)
         (place .w) (place .graph) (place .n) (now (part .entry)) (now (part .exit)) ⌝ }
 {
     let mut u = s.from;
     while u < s.upto {
-        strike_row(part, place, fs, ps, s, u);
+        rule_row(part, place, fs, ps, s, u);
         u += 1;
     }
 }

@@ -2,7 +2,7 @@
 use Prim.Native.Nat.{ℕ, zero, suc, _+_, _*_, _≤_, _<_}
 use mathlib.Core.Path.{_≡_, ap, sym, _∙_}
 use mathlib.Core.List.{List}
-use mathlib.Core.Bool.{Bool, true, _&&_}
+use mathlib.Core.Bool.{Bool, true, false, _&&_}
 use native.Mathlib.Numerals.{add-one}
 use native.Mathlib.Omega.{arith}
 use lib.ListN.{length, length-drop}
@@ -156,7 +156,7 @@ module _ {ls fs rs ps : List ℕ} {k n q t : ℕ} (P : Parts ls fs rs ps k n q t
       let g = rule-in rs k q t j (P .rules) b .pairs (omega arith) in
       omega (arith, P .pair-rows)
 
-  freq-there : (l v : ℕ) → l < k → InLink ls l v → HasRow freqBytes fs v
+  pub freq-there : (l v : ℕ) → l < k → InLink ls l v → HasRow freqBytes fs v
   freq-there l v b i = let x = in-link-lt ls k n (P .links) l v b i in omega (arith, P .freq-rows)
 
 pub row-bounds : {s : List ℕ} {j u v : ℕ} → RowAt s j u v → RowBounds s j u v
@@ -193,6 +193,15 @@ pub agree-plain : (kind value d : ℕ) (l m : Bool) → (kind ≡ 3 → ⊥) →
 unfolding agree
 agree-plain kind value d l m h = rw (ne-eqb kind 3 h)
 
+-- and no other allows equal frequencies
+pub agree-equal : (kind value : ℕ) → (kind ≡ 3 → ⊥) → 0 < value → agree kind value 0 false ≡ false
+unfolding agree
+agree-equal kind value ne h = bool (eqb kind 1)
+    (λ e. rw (e, lt-leb value 0 h))
+    (λ e. bool (eqb kind 2)
+    (λ f. rw (e, f, ne-eqb 0 value (λ z. omega arith)))
+    (λ f. rw (e, f, ne-eqb kind 3 ne)))
+
 -- the vertex of a frequency
 
 pub has-freq-is : (ls fs : List ℕ) (l x : ℕ)
@@ -214,30 +223,19 @@ pub listed-at : (ls fs : List ℕ) (k : ℕ) (f : ℕ → ℕ) (l : ℕ) → all
 unfolding inLists
 listed-at ls fs k f l h b = all-out k (inLists ls fs f) h l b
 
--- what the code needs of a rule row and the cells taken for its links
-pub record RuleTaken (s cells : List ℕ) (j : ℕ) : Type 0 where
-  pub row : HasRow ruleBytes (rulePart s) j
-  pub lowA : ruleA (rulePart s) j < kOf s
-  pub lowB : ruleB (rulePart s) j < kOf s
-  pub cellA : ruleA (rulePart s) j < length cells
-  pub cellB : ruleB (rulePart s) j < length cells
-  pub listedA : inList s (ruleA (rulePart s) j) (cellsOf cells (ruleA (rulePart s) j)) ≡ true
-  pub listedB : inList s (ruleB (rulePart s) j) (cellsOf cells (ruleB (rulePart s) j)) ≡ true
+-- what the code needs of a link and the cell taken for it
+pub record CellTaken (s cells : List ℕ) (l : ℕ) : Type 0 where
+  pub low : l < kOf s
+  pub there : l < length cells
+  pub listed : inList s l (cellsOf cells l) ≡ true
 
-pub rule-taken : {s cells : List ℕ} {j : ℕ} → Taken s cells → j < qOf s → RuleTaken s cells j
-rule-taken {s} {cells} {j} t b =
-    let P = parts-of s (t .accepted) in
-    let o = rule-links P j b in
+pub cell-taken : {s cells : List ℕ} {l : ℕ} → Taken s cells → l < kOf s → CellTaken s cells l
+cell-taken {s} {cells} {l} t b =
     let e = t .enough in
-    let at = listed-at (linkPart s) (freqPart s) (kOf s) (cellsOf cells) in
     record {
-      row = links-within P j b .2;
-      lowA = omega arith;
-      lowB = omega arith;
-      cellA = omega arith;
-      cellB = omega arith;
-      listedA = at (ruleA (rulePart s) j) (t .listed) (omega arith);
-      listedB = at (ruleB (rulePart s) j) (t .listed) (omega arith);
+      low = b;
+      there = omega arith;
+      listed = listed-at (linkPart s) (freqPart s) (kOf s) (cellsOf cells) l (t .listed) b;
     }
 
 -- a sheet that the reader refuses is refused by the check, for the same cause

@@ -2,15 +2,15 @@
 use Prim.Native.Nat.{ℕ, _-_, _≤_, _<_}
 use mathlib.Core.Path.{_≡_}
 use mathlib.Core.List.{List}
-use mathlib.Core.Bool.{Bool, true}
+use mathlib.Core.Bool.{Bool, true, false}
 use lib.ListN.{length}
 use Rattle.sets.specs.Below.{all}
 use Rattle.sheet_rows.specs.Rows.{linkFirst, ruleA, ruleB, ruleCount, ruleValue}
-use Rattle.sheet.specs.Sheet.{kOf, qOf, linkPart, freqPart, rulePart, pairPart}
+use Rattle.sheet.specs.Sheet.{kOf, qOf, linkPart, freqPart, rulePart, pairPart, before}
 use Rattle.sheet.specs.Accepted.{Accepted}
 use Rattle.rules.specs.Layers.{InLink}
-use Rattle.rules.specs.Pairs.{allows, listsPair}
-use Rattle.rules.specs.Plans.{cellsOf, hasFreq, vertexOf, inLists, ruleKept}
+use Rattle.rules.specs.Pairs.{allows, joins, listsPair}
+use Rattle.rules.specs.Plans.{cellsOf, hasFreq, vertexOf, inLists, pairKept, linkKept}
 
 module _ (s : List ℕ) where
   -- rule row j lists the positions of vertex u, of its link a, and vertex v, of its link b
@@ -34,9 +34,26 @@ module _ (s : List ℕ) where
   abbrev pub cellListed : List ℕ → ℕ → Bool
   cellListed cells = inLists (linkPart s) (freqPart s) (cellsOf cells)
 
-  -- rule row j allows the frequencies that the cells take for its links
-  abbrev pub cellsKeep : List ℕ → ℕ → Bool
-  cellsKeep cells = ruleKept (linkPart s) (freqPart s) (rulePart s) (pairPart s) (cellsOf cells)
+  -- the pair test of vertex u of link a and vertex v of link b
+  abbrev pub joinsIn : ℕ → ℕ → ℕ → ℕ → Bool
+  joinsIn = joins (linkPart s) (freqPart s) (rulePart s) (pairPart s) (qOf s)
+
+  -- the pair test allows the cells of links a and b, and that of link a with those of all higher links
+  abbrev pub cellsKeep : List ℕ → ℕ → ℕ → Bool
+  cellsKeep cells = pairKept (linkPart s) (freqPart s) (rulePart s) (pairPart s) (qOf s) (cellsOf cells)
+
+  abbrev pub cellKeeps : List ℕ → ℕ → Bool
+  cellKeeps cells = linkKept (linkPart s) (freqPart s) (rulePart s) (pairPart s) (kOf s) (qOf s) (cellsOf cells)
+
+-- rows "rise strictly by (a, b)": the rules before j come before the links a and b
+pub record ComeBefore (rs : List ℕ) (a b j : ℕ) : Type 0 where
+  pub each : (i : ℕ) → i < j → before (ruleA rs i) (ruleB rs i) a b ≡ true
+
+-- and rule j, if there is one, does not: it is of these links, or no rule is
+pub record Sought (rs : List ℕ) (q a b j : ℕ) : Type 0 where
+  pub within : j ≤ q
+  pub earlier : ComeBefore rs a b j
+  pub here : j < q → before (ruleA rs j) (ruleB rs j) a b ≡ false
 
 -- a rule row of an accepted sheet, with vertex u of its link a and vertex v of its link b
 pub record RowAt (s : List ℕ) (j u v : ℕ) : Type 0 where
@@ -44,6 +61,15 @@ pub record RowAt (s : List ℕ) (j u v : ℕ) : Type 0 where
   pub among : j < qOf s
   pub inA : InLink (linkPart s) (ruleA (rulePart s) j) u
   pub inB : InLink (linkPart s) (ruleB (rulePart s) j) v
+
+-- vertex u of link a and vertex v of a higher link b of an accepted sheet, with the place of their rule
+pub record PairAt (s : List ℕ) (j a b u v : ℕ) : Type 0 where
+  pub accepted : Accepted s
+  pub order : a < b
+  pub within : b < kOf s
+  pub sought : Sought (rulePart s) (qOf s) a b j
+  pub inA : InLink (linkPart s) a u
+  pub inB : InLink (linkPart s) b v
 
 -- cells for every link of an accepted sheet, each in its link's list
 pub record Taken (s cells : List ℕ) : Type 0 where

@@ -1,9 +1,9 @@
--- The pair test: what a rule says of a vertex of its link a and a vertex of its link b.
-use Prim.Native.Nat.{ℕ, _+_, _-_}
+-- The pair test: what the rule of two links says of a vertex of each, and what is asked of links without a rule.
+use Prim.Native.Nat.{ℕ, zero, suc, _+_, _-_}
 use mathlib.Core.List.{List}
-use mathlib.Core.Bool.{Bool, not, cond, _&&_, _||_}
+use mathlib.Core.Bool.{Bool, not, cond, _&&_}
 use lib.Dec.{leb, eqb}
-use Rattle.sets.specs.Below.{all, any}
+use Rattle.sets.specs.Below.{any}
 use Rattle.sheet_rows.specs.Rows.{linkFirst, freq, ruleA, ruleB, ruleKind, ruleCount, ruleValue, pairFirst, pairSecond}
 
 -- how far two frequencies differ, "either one being higher"
@@ -24,6 +24,14 @@ unfoldable pub agree : ℕ → ℕ → ℕ → Bool → Bool
 agree kind value apart listed =
     cond (eqb kind 1) (leb value apart) (cond (eqb kind 2) (eqb apart value) (eqb kind 3 && listed))
 
+-- rule row j is of the links a and b, a being its lower one
+unfoldable pub ofLinks : List ℕ → ℕ → ℕ → ℕ → Bool
+ofLinks rs a b j = eqb (ruleA rs j) a && eqb (ruleB rs j) b
+
+-- "Links without a rule must now differ in frequency"
+unfoldable pub differ : List ℕ → ℕ → ℕ → Bool
+differ fs u v = not (eqb (freq fs u) (freq fs v))
+
 -- the link, frequency, rule and pair sections
 module _ (ls fs rs ps : List ℕ) where
   -- rule row j allows vertex u, of its link a, with vertex v, of its link b
@@ -32,10 +40,9 @@ module _ (ls fs rs ps : List ℕ) where
       agree (ruleKind rs j) (ruleValue rs j) (distance (freq fs u) (freq fs v))
       (listsPair ps (ruleValue rs j) (ruleCount rs j) (u - linkFirst ls (ruleA rs j)) (v - linkFirst ls (ruleB rs j)))
 
-  -- rule row j is not of the links a and b in this order, or allows vertex u of a with vertex v of b
-  unfoldable pub fits : ℕ → ℕ → ℕ → ℕ → ℕ → Bool
-  fits a b u v j = not (eqb (ruleA rs j) a && eqb (ruleB rs j) b) || allows j u v
-
-  -- "the rule of the links, if any, allows the pair": the first m rules, whichever of the links a and b is the lower
+  -- the pair test, of vertex u of link a and vertex v of link b under the first m rules: "the rule of the links, if
+  -- any, allows the pair", whichever of the links is the lower; without one the frequencies differ
   unfoldable pub joins : ℕ → ℕ → ℕ → ℕ → ℕ → Bool
-  joins m a b u v = all m (λ j. fits a b u v j && fits b a v u j)
+  joins zero a b u v = differ fs u v
+  joins (suc m) a b u v =
+      cond (ofLinks rs a b m) (allows m u v) (cond (ofLinks rs b a m) (allows m v u) (joins m a b u v))

@@ -2,15 +2,15 @@
 -- is in its link's list and all rules hold".
 use Prim.Native.Nat.{ℕ, _+_}
 use mathlib.Core.List.{List}
-use mathlib.Core.Bool.{Bool, true, false, _&&_}
+use mathlib.Core.Bool.{Bool, true, false, _&&_, _||_}
 use lib.ListN.{length, getD}
 use lib.Dec.{leb, eqb}
 use Rattle.sets.specs.Below.{all, any, first}
-use Rattle.sheet_rows.specs.Rows.{linkFirst, linkCount, freq, ruleA, ruleB}
+use Rattle.sheet_rows.specs.Rows.{linkFirst, linkCount, freq}
 use Rattle.sheet.specs.Sheet.{kOf, qOf, linkPart, freqPart, rulePart, pairPart}
 use Rattle.sheet.specs.Refusal.{causeNumber, passing, refusal}
 use Rattle.rules.specs.Job.{Job}
-use Rattle.rules.specs.Pairs.{allows}
+use Rattle.rules.specs.Pairs.{joins}
 use Rattle.rules.specs.declared.CheckAnswer.{CheckAnswer}
 use Rattle.rules.specs.declared.CheckAnswer.the-variants.{No, Yes, Few, Refused}
 
@@ -30,15 +30,17 @@ vertexOf ls fs l x = linkFirst ls l + placeOf fs (linkFirst ls l) (linkCount ls 
 unfoldable pub inLists : List ℕ → List ℕ → (ℕ → ℕ) → ℕ → Bool
 inLists ls fs cells l = hasFreq ls fs l (cells l)
 
--- rule row j "allows the two frequencies taken for its links"
-unfoldable pub ruleKept : List ℕ → List ℕ → List ℕ → List ℕ → (ℕ → ℕ) → ℕ → Bool
-ruleKept ls fs rs ps cells j =
-    allows ls fs rs ps j (vertexOf ls fs (ruleA rs j) (cells (ruleA rs j)))
-    (vertexOf ls fs (ruleB rs j) (cells (ruleB rs j)))
+-- the pair test allows the frequencies taken for links a and b
+unfoldable pub pairKept : List ℕ → List ℕ → List ℕ → List ℕ → ℕ → (ℕ → ℕ) → ℕ → ℕ → Bool
+pairKept ls fs rs ps q cells a b = joins ls fs rs ps q a b (vertexOf ls fs a (cells a)) (vertexOf ls fs b (cells b))
 
--- an assignment that "keeps every rule"
+-- it allows that of link a with those of all higher links
+unfoldable pub linkKept : List ℕ → List ℕ → List ℕ → List ℕ → ℕ → ℕ → (ℕ → ℕ) → ℕ → Bool
+linkKept ls fs rs ps k q cells a = all k (λ b. leb b a || pairKept ls fs rs ps q cells a b)
+
+-- an assignment that "keeps every rule": each frequency is of its link's list, and the pair test allows every two
 unfoldable pub keeps : List ℕ → List ℕ → List ℕ → List ℕ → ℕ → ℕ → (ℕ → ℕ) → Bool
-keeps ls fs rs ps k q cells = all k (inLists ls fs cells) && all q (ruleKept ls fs rs ps cells)
+keeps ls fs rs ps k q cells = all k (inLists ls fs cells) && all k (linkKept ls fs rs ps k q cells)
 
 -- the cells as a frequency for each link
 abbrev pub cellsOf : List ℕ → ℕ → ℕ

@@ -4,6 +4,7 @@ mod layers;
 mod pairs;
 mod parts;
 mod plans;
+mod seek;
 
 ghost use mathlib.Core.Path.{_≡_};
 ghost use Rattle.rules.specs.Job.{jobOf};

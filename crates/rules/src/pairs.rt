@@ -1,15 +1,19 @@
-// The pair test: what a rule row of an accepted sheet says of two vertices of its links.
+// The pair test: what an accepted sheet says of two vertices of different links.
 ghost use mathlib.Core.Path.{_≡_};
 ghost use Prim.Native.Nat.{_+_, _*_, _<_, _≤_};
+ghost use mathlib.Core.Bool.{_&&_};
+ghost use lib.Dec.{ltb};
 ghost use lib.ListN.{length};
 ghost use Rattle.sheet_rows.specs.Rows.{HasRow, pairBytes, ruleKind};
-ghost use Rattle.sheet.specs.Sheet.{rulePart};
-ghost use Rattle.rules.specs.Pairs.{distance as distanceOf, samePair, listsPair, agree as agreeOf};
-ghost use Rattle.rules.specs.Asked.{RowAt, rowLists, rowAllows};
+ghost use Rattle.sheet.specs.Sheet.{qOf, rulePart};
+ghost use Rattle.sheet.specs.Accepted.{Accepted};
+ghost use Rattle.rules.specs.Pairs.{distance as distanceOf, samePair, listsPair, agree as agreeOf, ofLinks};
+ghost use Rattle.rules.specs.Asked.{RowAt, PairAt, rowLists, rowAllows, joinsIn};
 use crate::parts::freq_part;
 use crate::parts::link_part;
 use crate::parts::pair_part;
 use crate::parts::rule_part;
+use sheet::rules_of;
 use sheet_rows::freq;
 use sheet_rows::link_first;
 use sheet_rows::pair_first;
@@ -81,8 +85,8 @@ fn lists_vertices(s: &[u8], j: usize, u: usize, v: usize) -> bool
     lists_pair(ps, base, count, x, y)
 }
 
-// The pair test at rule row j: whether it allows vertex u, of its link a, with vertex v, of its link b.
-pub fn row_allows(s: &[u8], j: usize, u: usize, v: usize) -> bool
+// Whether rule row j allows vertex u, of its link a, with vertex v, of its link b.
+fn row_allows(s: &[u8], j: usize, u: usize, v: usize) -> bool
     requires { ⌜ RowAt (now s) j u v ⌝ }
     ensures { λ r. ⌜ r ≡ rowAllows (now (s .entry)) j u v ⌝ }
 {
@@ -94,4 +98,28 @@ pub fn row_allows(s: &[u8], j: usize, u: usize, v: usize) -> bool
     }
     let fs = freq_part(s);
     agree(kind, value, distance(freq(fs, u), freq(fs, v)), false)
+}
+
+// Whether there is a rule row j, and it is of the links a and b.
+fn is_of(s: &[u8], j: usize, a: usize, b: usize) -> bool
+    requires { ⌜ Accepted (now s) ⌝ }
+    ensures { λ r. ⌜ r ≡ (ltb j (qOf (now (s .entry))) && ofLinks (rulePart (now (s .entry))) a b j) ⌝ }
+{
+    if rules_of(s) <= j {
+        return false;
+    }
+    let rs = rule_part(s);
+    (rule_a(rs, j) == a) & (rule_b(rs, j) == b)
+}
+
+// The pair test of vertex u of link a and vertex v of link b, whose rule, if there is one, is row j.
+pub fn joined(s: &[u8], j: usize, a: usize, b: usize, u: usize, v: usize) -> bool
+    requires { ⌜ PairAt (now s) j a b u v ⌝ }
+    ensures { λ r. ⌜ r ≡ joinsIn (now (s .entry)) a b u v ⌝ }
+{
+    if is_of(s, j, a, b) {
+        return row_allows(s, j, u, v);
+    }
+    let fs = freq_part(s);
+    freq(fs, u) != freq(fs, v)
 }

@@ -5,22 +5,19 @@ ghost use Prim.Native.Nat.{_+_, _*_, _<_, _≤_};
 ghost use lib.ListN.{length};
 ghost use Rattle.sets.specs.Below.{all};
 ghost use Rattle.sheet_rows.specs.Rows.{freqBytes};
-ghost use Rattle.sheet.specs.Sheet.{kOf, qOf};
+ghost use Rattle.sheet.specs.Sheet.{kOf, qOf, rulePart};
 ghost use Rattle.sheet.specs.Accepted.{Accepted};
 ghost use Rattle.rules.specs.Job.{jobOf};
 ghost use Rattle.rules.specs.Plans.{placeOf, cellsOf, keepsJob};
-ghost use Rattle.rules.specs.Asked.{Taken, inList, vertexIn, cellListed, cellsKeep};
-use crate::pairs::row_allows;
+ghost use Rattle.rules.specs.Asked.{Taken, Sought, inList, vertexIn, cellListed, cellsKeep, cellKeeps};
+use crate::pairs::joined;
 use crate::parts::freq_part;
 use crate::parts::link_part;
-use crate::parts::rule_part;
+use crate::seek::seek_rule;
 use sheet::links_of;
-use sheet::rules_of;
 use sheet_rows::freq;
 use sheet_rows::link_count;
 use sheet_rows::link_first;
-use sheet_rows::rule_a;
-use sheet_rows::rule_b;
 
 // A cell as a number that compares with fields.
 fn wide(x: u32) -> usize
@@ -88,31 +85,49 @@ fn cells_listed(s: &[u8], cells: &[u32]) -> bool
     true
 }
 
-// Whether rule row j allows the frequencies taken for its links.
-fn rule_kept(s: &[u8], cells: &[u32], j: usize) -> bool
-    requires { ⌜ Taken (now s) (now cells) × (j < qOf (now s)) ⌝ }
-    ensures { λ r. ⌜ r ≡ cellsKeep (now (s .entry)) (now (cells .entry)) j ⌝ }
+// Whether the pair test allows the cells of links a and b, whose rule, if there is one, is row j.
+fn pair_kept(s: &[u8], cells: &[u32], a: usize, b: usize, j: usize) -> bool
+    requires { ⌜ Taken (now s) (now cells) × (a < b) × (b < kOf (now s))
+        × Sought (rulePart (now s)) (qOf (now s)) a b j ⌝ }
+    ensures { λ r. ⌜ r ≡ cellsKeep (now (s .entry)) (now (cells .entry)) a b ⌝ }
 {
-    let rs = rule_part(s);
-    let a = rule_a(rs, j);
-    let b = rule_b(rs, j);
     let u = vertex(s, a, wide(cells[a]));
     let v = vertex(s, b, wide(cells[b]));
-    row_allows(s, j, u, v)
+    joined(s, j, a, b, u, v)
 }
 
-// Whether every rule row allows the frequencies taken for its links.
-fn rules_kept(s: &[u8], cells: &[u32]) -> bool
-    requires { ⌜ Taken (now s) (now cells) ⌝ }
-    ensures { λ r. ⌜ r ≡ all (qOf (now (s .entry))) (cellsKeep (now (s .entry)) (now (cells .entry))) ⌝ }
+// Whether it allows the cell of link a with those of all higher links. The rules of link a begin at row `from`.
+fn link_kept(s: &[u8], cells: &[u32], a: usize, from: usize) -> bool
+    requires { ⌜ Taken (now s) (now cells) × (a < kOf (now s)) × Sought (rulePart (now s)) (qOf (now s)) a 0 from ⌝ }
+    ensures { λ r. ⌜ r ≡ cellKeeps (now (s .entry)) (now (cells .entry)) a ⌝ }
 {
-    let q = rules_of(s);
-    let mut j = 0;
-    while j < q {
-        if !rule_kept(s, cells, j) {
+    let k = links_of(s);
+    let mut j = from;
+    let mut b = a + 1;
+    while b < k {
+        j = seek_rule(s, a, b, j);
+        if !pair_kept(s, cells, a, b, j) {
             return false;
         }
-        j += 1;
+        b += 1;
+    }
+    true
+}
+
+// Whether the pair test allows the cells of every two links.
+fn links_kept(s: &[u8], cells: &[u32]) -> bool
+    requires { ⌜ Taken (now s) (now cells) ⌝ }
+    ensures { λ r. ⌜ r ≡ all (kOf (now (s .entry))) (cellKeeps (now (s .entry)) (now (cells .entry))) ⌝ }
+{
+    let k = links_of(s);
+    let mut j = 0;
+    let mut a = 0;
+    while a < k {
+        j = seek_rule(s, a, 0, j);
+        if !link_kept(s, cells, a, j) {
+            return false;
+        }
+        a += 1;
     }
     true
 }
@@ -125,5 +140,5 @@ pub fn keeps_sheet(s: &[u8], cells: &[u32]) -> bool
     if !cells_listed(s, cells) {
         return false;
     }
-    rules_kept(s, cells)
+    links_kept(s, cells)
 }

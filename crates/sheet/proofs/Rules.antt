@@ -6,7 +6,7 @@ use mathlib.Core.Bool.{Bool, true, false, cond, _&&_, _||_}
 use mathlib.Core.Logic.{_⊎_, inl, inr}
 use native.Mathlib.Omega.{arith}
 use lib.Dec.{eqb, ltb}
-use borrow.Author.Tests.{eqb-true, ltb-true}
+use borrow.Author.Tests.{eqb-true, ltb-true, ne-eqb}
 use Rattle.sets.specs.Below.{all, sumTo}
 use Rattle.sets.proofs.Tests.{and-out, or-case, below}
 use Rattle.sets.proofs.Below.{all-out, sum-in}
@@ -40,6 +40,15 @@ value-is p j sum h o = go (eqb (ruleKind p j) 3) h o
     go true h o = eqb-true (ruleValue p j) sum (and-out (ltb 0 (ruleCount p j)) (eqb (ruleValue p j) sum) h .1)
     go false h o = absurd (omega arith)
 
+value-some : (p : List ℕ) (j sum : ℕ) → kindOk (ruleKind p j) (ruleCount p j) (ruleValue p j) sum ≡ true
+    → (ruleKind p j ≡ 3 → ⊥) → 0 < ruleValue p j
+unfolding kindOk plainOk
+value-some p j sum h ne =
+    let r = rw (ne-eqb (ruleKind p j) 3 ne) at h in
+    let x = and-out (eqb (ruleKind p j) 1 || eqb (ruleKind p j) 2) _ r in
+    let y = and-out (eqb (ruleCount p j) 0 && ltb 0 (ruleValue p j)) _ (x .1) in
+    ltb-true 0 (ruleValue p j) (and-out (eqb (ruleCount p j) 0) _ (y .0) .1)
+
 -- rule j comes after rule i by its links
 pub record After (p : List ℕ) (i j : ℕ) : Type 0 where
   pub lower : ruleA p i ≤ ruleA p j
@@ -60,12 +69,13 @@ after-is p i j h =
         let q = eqb-true (ruleA p i) (ruleA p j) (x .0) in
         record { lower = omega arith; higher = λ _. ltb-true (ruleB p i) (ruleB p j) (x .1) }
 
--- what an accepted section says of a rule: its links are among the k and after those of the rule before it, and its
--- pairs are among the t
+-- what an accepted section says of a rule: its links are among the k and after those of the rule before it, its value
+-- is above 0 where it lists no pairs, and its pairs are among the t
 pub record RuleIn (p : List ℕ) (k t j : ℕ) : Type 0 where
   pub order : ruleA p j < ruleB p j
   pub within : ruleB p j < k
   pub rises : 0 < j → After p (j - 1) j
+  pub plain : (ruleKind p j ≡ 3 → ⊥) → 0 < ruleValue p j
   pub pairs : 0 < listed p j → ruleValue p j + listed p j ≤ t
 
 pub rule-in : (p : List ℕ) (k q t j : ℕ) → rulesOk p k q t ≡ true → j < q → RuleIn p k t j
@@ -83,6 +93,7 @@ rule-in p k q t j h l =
       within = ltb-true (ruleB p j) k (z .1);
       rises = λ o.
           rising o (or-case (eqb j 0) (before (ruleA p (j - 1)) (ruleB p (j - 1)) (ruleA p j) (ruleB p j)) (y .1));
+      plain = λ ne. value-some p j sum (x .1) ne;
       pairs = λ o.
           omega (arith, value-is p j sum (x .1) o, eqb-true (sumTo q (listed p)) t (w .1), sum-in q j (listed p) l);
     }

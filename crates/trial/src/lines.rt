@@ -28,6 +28,7 @@ use trial_parts::put_byte;
 use trial_parts::put_cell;
 use trial_parts::put_half;
 use trial_parts::put_word;
+use trial_parts::want_firsts;
 
 // The words that begin a row on a sheet, by their first bytes.
 const ALTER: usize = 97;
@@ -38,9 +39,9 @@ const CHECK: usize = 99;
 
 const FIRST: usize = 102;
 
-const ONES: usize = 111;
-
 const PLANS: usize = 112;
+
+const TAKES: usize = 116;
 
 const WITHIN: usize = 119;
 
@@ -49,15 +50,6 @@ fn put_list(kept: &[usize], list: &mut [u8]) {
     let mut i = 0;
     while i < list.len() {
         put_byte(list, i, get(kept, plus(LIST, i)));
-        i += 1;
-    }
-}
-
-// The same number in the first m cells of the plan wanted.
-fn want_same(kept: &mut [usize], m: usize, x: usize) {
-    let mut i = 0;
-    while i < m {
-        put(kept, plus(PLAN, i), x);
         i += 1;
     }
 }
@@ -86,7 +78,7 @@ fn plan_filters(kept: &mut [usize], sheet: &[u8], list: &[u8]) -> bool {
 
 // `plan`: choice, limit, the number of the answer, four plan cells, and the nodes under each filter number.
 fn plan_row(kept: &mut [usize], sheet: &[u8], list: &[u8]) -> bool {
-    want_same(kept, 72, 0);
+    want_firsts(kept, 0);
     next_run(kept, CHOICE, 3);
     next_run(kept, PLAN, 4);
     plan_filters(kept, sheet, list)
@@ -209,7 +201,7 @@ fn alter_row(kept: &mut [usize], sheet: &mut [u8], length: usize) -> bool {
     refuses(kept, first_bytes(sheet, length), number)
 }
 
-fn ones_filters(kept: &mut [usize], sheet: &[u8]) -> bool {
+fn takes_filters(kept: &mut [usize], sheet: &[u8]) -> bool {
     let mut filter = 0;
     while filter < 8 {
         put(kept, FILTER, filter);
@@ -221,16 +213,15 @@ fn ones_filters(kept: &mut [usize], sheet: &[u8]) -> bool {
     true
 }
 
-// `ones`: the number of the answer, its nodes under every filter number, and how many links take 1, the others none;
-// then the check of that.
-fn ones_row(kept: &mut [usize], sheet: &[u8]) -> bool {
+// `takes`: the number of the answer, its nodes under every filter number, and how many links take their first
+// frequency, the others none; then the check of that.
+fn takes_row(kept: &mut [usize], sheet: &[u8]) -> bool {
     put(kept, CHOICE, 0);
     put(kept, LIMIT, 1000000);
     next_run(kept, NUMBER, 2);
     let m = next(kept);
-    want_same(kept, 72, 0);
-    want_same(kept, m, 1);
-    if !ones_filters(kept, sheet) {
+    want_firsts(kept, m);
+    if !takes_filters(kept, sheet) {
         return false;
     }
     checks_plan(kept, sheet)
@@ -262,8 +253,8 @@ fn called_row(kept: &mut [usize], word: usize, sheet: &[u8], list: &[u8]) -> boo
     if word == CHECK {
         return check_row(kept, sheet);
     }
-    if word == ONES {
-        return ones_row(kept, sheet);
+    if word == TAKES {
+        return takes_row(kept, sheet);
     }
     if word == BESIDE {
         return beside_row(kept, sheet, list);

@@ -38,6 +38,7 @@ use trial_parts::next;
 use trial_parts::next_run;
 use trial_parts::plus;
 use trial_parts::put;
+use trial_parts::put_own;
 use trial_parts::read;
 use trial_parts::times;
 
@@ -45,6 +46,8 @@ use trial_parts::times;
 const EVEN: usize = 101;
 
 const LISTS: usize = 108;
+
+const OWN: usize = 111;
 
 const RANDOM: usize = 114;
 
@@ -119,6 +122,11 @@ fn read_rules(job: &mut [usize]) {
     next_run(job, PAIRS, times(2, get(job, T)));
 }
 
+fn read_even(job: &mut [usize]) {
+    next_run(job, K, 4);
+    make_even(job);
+}
+
 fn read_list(kept: &mut [usize]) {
     let m = next(kept);
     next_run(kept, LIST, m);
@@ -132,8 +140,12 @@ fn row(kept: &mut [usize], word: usize) -> bool {
         return true;
     }
     if word == EVEN {
-        next_run(kept, K, 4);
-        make_even(kept);
+        read_even(kept);
+        return true;
+    }
+    if word == OWN {
+        read_even(kept);
+        put_own(kept);
         return true;
     }
     if word == LISTS {

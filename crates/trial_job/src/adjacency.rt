@@ -71,15 +71,15 @@ fn is_listed(job: &[usize], from: usize, m: usize, i: usize, j: usize) -> bool {
     false
 }
 
-// Whether the rule of the links a < b of two vertices, if any, allows them.
+// Whether the rule of the links a < b of two vertices allows them. Without a rule their frequencies differ.
 fn allows(job: &[usize], a: usize, b: usize, u: usize, v: usize) -> bool {
     let at = rule_of(job, a, b);
+    let apart = distance(khz(job, u), khz(job, v));
     if at == 0 {
-        return true;
+        return apart != 0;
     }
     let kind = get(job, plus(at, 2));
     let value = get(job, plus(at, 4));
-    let apart = distance(khz(job, u), khz(job, v));
     if kind == 1 {
         return value <= apart;
     }

@@ -1,13 +1,17 @@
 // Jobs at the limits: each link has the frequencies 1, 2, ..; the rules are those of the first pairs of links, all of
-// kind 3, and each lists the first pairs of places. So the first plan takes 1 throughout, in k + 1 nodes.
+// kind 3, and each lists the first pairs of places. So with a rule for every two links the first plan takes the first
+// frequencies, which are equal, in k + 1 nodes. With frequencies of their own, no two equal, it does so with any rules.
 ghost use mathlib.Core.Path.{_≡_};
 ghost use lib.ListN.{length};
+use crate::job::first;
+use crate::job::khz;
 use crate::job::put_link;
 use crate::job::put_pair;
 use crate::job::put_rule;
 use crate::kept::FREQUENCIES;
 use crate::kept::K;
 use crate::kept::N;
+use crate::kept::PLAN;
 use crate::kept::Q;
 use crate::kept::T;
 use crate::parts::either;
@@ -80,4 +84,28 @@ pub fn make_even(job: &mut [usize])
     let n = get(job, N);
     put_links(job, k, n);
     put_rules(job, k, get(job, Q), get(job, T), share(n, k, k));
+}
+
+// Every vertex has its own frequency: 1 to n.
+pub fn put_own(job: &mut [usize])
+    ensures { λ _. ⌜ length (now (job .exit)) ≡ length (now (job .entry)) ⌝ }
+{
+    let n = get(job, N);
+    let mut v = 0;
+    while v < n {
+        put(job, plus(FREQUENCIES, v), plus(v, 1));
+        v += 1;
+    }
+}
+
+// The plan wanted: the first frequencies of the first m links, and zeros after them.
+pub fn want_firsts(job: &mut [usize], m: usize)
+    ensures { λ _. ⌜ length (now (job .exit)) ≡ length (now (job .entry)) ⌝ }
+{
+    let mut l = 0;
+    while l < 72 {
+        let f = khz(job, first(job, l));
+        put(job, plus(PLAN, l), either(l < m, f, 0));
+        l += 1;
+    }
 }

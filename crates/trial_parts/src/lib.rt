@@ -8,6 +8,8 @@ pub mod kept;
 mod parts;
 
 pub use even::make_even;
+pub use even::put_own;
+pub use even::want_firsts;
 pub use input::EQUALS;
 pub use input::SKIP;
 pub use input::line_end;

@@ -13,9 +13,9 @@ use trial_parts::kept::T;
 use trial_parts::make_even;
 use trial_parts::next;
 use trial_parts::next_run;
+use trial_parts::put_own;
 use trial_parts::times;
 use trial_texts_calls::exports;
-use trial_texts_parts::put_own;
 use trial_texts_there::comes_there;
 
 // The words that begin a row with a job, by their first bytes.

@@ -6,7 +6,6 @@ use trial_parts::count;
 use trial_parts::first;
 use trial_parts::get;
 use trial_parts::get_byte;
-use trial_parts::kept::FREQUENCIES;
 use trial_parts::kept::K;
 use trial_parts::kept::N;
 use trial_parts::kept::Q;
@@ -14,21 +13,10 @@ use trial_parts::kept::T;
 use trial_parts::plus;
 use trial_parts::put;
 use trial_parts::put_link;
+use trial_parts::put_own;
 use trial_parts::put_pair;
 use trial_parts::put_rule;
 use trial_parts::times;
-
-// Every vertex has its own frequency: 1 to n.
-pub fn put_own(job: &mut [usize])
-    ensures { λ _. ⌜ length (now (job .exit)) ≡ length (now (job .entry)) ⌝ }
-{
-    let n = get(job, N);
-    let mut v = 0;
-    while v < n {
-        put(job, plus(FREQUENCIES, v), plus(v, 1));
-        v += 1;
-    }
-}
 
 // The links, as they are.
 fn put_links(job: &[usize], back: &mut [usize]) {

@@ -33,10 +33,11 @@ fn rule_of(job: &[usize], a: usize, b: usize) -> usize {
     0
 }
 
-// Whether the rule at a place, 0 for none, joins frequencies so far apart. The pairs of kind 3 are put afterwards.
+// Whether the rule at a place, 0 for none, joins frequencies so far apart. Without a rule those that differ are joined.
+// The pairs of kind 3 are put afterwards.
 fn joins(job: &[usize], at: usize, apart: usize) -> bool {
     if at == 0 {
-        return true;
+        return apart != 0;
     }
     let kind = get(job, plus(at, 2));
     let value = get(job, plus(at, 4));

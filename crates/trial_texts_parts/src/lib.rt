@@ -8,7 +8,6 @@ mod row_texts;
 mod texts;
 
 pub use back::put_back;
-pub use back::put_own;
 pub use joined::put_joined;
 pub use matching::fill_bytes;
 pub use matching::first_difference;

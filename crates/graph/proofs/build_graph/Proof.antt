@@ -1,7 +1,7 @@
 -- `graph::build_graph` meets its contract: the parts are the sheet's sections.
 use borrow.Author.Needs.{needs}
 use denote.Ref.{now}
-use mathlib.Core.Path.{_≡_, refl}
+use mathlib.Core.Path.{refl}
 use Rattle.sheet.specs.Sheet.{tOf}
 use Rattle.sheet.proofs.Parts.{part-from}
 use Rattle.rules.proofs.Laws.{parts-of}
@@ -32,7 +32,8 @@ returns c =
     let e = o .before .before .freqs-at .ensures .0 in
     let f = o .before .rules-at .ensures .0 in
     let g = o .pairs-at .ensures .0 in
-    built-edge (o .before .before .before .before .before .pre) (b .build-rows .ensures) (simp part-from) (simp part-from (rw e refl))
+    built-edge (o .before .before .before .before .before .pre) (b .build-rows .ensures) (simp part-from)
+    (simp part-from (rw e refl))
     (simp part-from (rw f refl)) (simp part-from (rw g refl)) (b .before .rules-of .ensures .0)
 
 pub build-graph-spec : {M : Type 1} → statement M

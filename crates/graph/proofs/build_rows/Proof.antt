@@ -8,7 +8,7 @@ use Rattle.rows.proofs.Rows.{outside-none, outside-then}
 use Rattle.rules.proofs.Laws.{link-rows}
 use Rattle.graph.specs.Graph.{adjacent}
 use Rattle.graph.specs.Rows.{RowsFit, Built}
-use Rattle.graph.proofs.Rows.{fit-same, no-rule}
+use Rattle.graph.proofs.Rows.{fit-same, separated-built}
 use Rattle.graph.proofs.build_rows.Statement.{statement}
 use Rattle.graph.proofs.build_rows.Tie as tie
 
@@ -24,30 +24,34 @@ start-rows-requires : tie.Need-start-rows-requires Inv-loop μ-loop
 start-rows-requires c κs = let s = c .before .before .before .before .before .before in
     (link-rows (s .pre .0 .parts), s .pre .1)
 
+separate-rows-requires : tie.Need-separate-rows-requires Inv-loop μ-loop
+separate-rows-requires c κs =
+    let s = c .before .before .before .before .before .before .before .before .before .before in
+    let P = s .pre .0 .parts in
+    (P .n-small, P .freq-rows, fit-same (s .pre .1) (c .before .before .before .start-rows .ensures .rest))
+
 loop-holds : tie.Need-loop-holds Inv-loop μ-loop
 loop-holds c =
-    let s = c .before .before .before .before .before .before .before .before .before in
-    let x = c .before .before .start-rows .ensures in
-    let a = s .args in (
-      search needs,
-      fit-same (s .pre .1) (x .rest),
-      record {
-        rows = rw (no-rule _ (a .fs .now) (a .rs .now) (a .ps .now)) at (x .rows);
-        rest = outside-none _ _ _;
-      },
-    )
+    let s = c .before .before .before .before .before .before .before .before .before .before .before .before .before in
+    let a = s .args in
+    let B = separated-built (a .ls .now) (a .fs .now) (a .rs .now) (a .ps .now) (a .place .k)
+    (c .before .before .before .before .before .before .start-rows .ensures)
+    (c .before .before .separate-rows .ensures) in
+    (search needs, fit-same (s .pre .1) (B .rest), record { rows = B .rows; rest = outside-none _ _ _ })
 
-strike-rule-requires : tie.Need-strike-rule-requires Inv-loop μ-loop
-strike-rule-requires c κs =
-    let x = c .before .before .before .before .before .before .before .before .before .before .before .before in
-    let l = c .before .before .loop in
-    let P = x .pre .0 in
-    ((record { q = _; t = P .t; parts = P .parts; among = c .before .loop-test .taken }, l .inv .1), l .inv .2 .rows)
+apply-rule-requires : tie.Need-apply-rule-requires Inv-loop μ-loop
+apply-rule-requires c κs =
+    let l = c .before .before in
+    let x = l .before .before .before .before .before .before .before in
+    let P = x .before .before .before .before .before .before .before .pre .0 in (
+      (record { q = _; t = P .t; parts = P .parts; among = c .before .loop-test .taken }, l .loop .inv .1),
+      l .loop .inv .2 .rows,
+    )
 
 loop-again : tie.Need-loop-again Inv-loop μ-loop
 loop-again c =
     let l = c .before .before .before .before .before .loop in
-    let x = c .before .before .strike-rule .ensures in (
+    let x = c .before .before .apply-rule .ensures in (
       search needs,
       fit-same (l .inv .1) (x .rest),
       record {
@@ -58,15 +62,15 @@ loop-again c =
 
 returns : tie.Need-returns Inv-loop μ-loop
 returns c =
-    let x = c .before .before .before .before in
-    let y = x .before .before .before .before .before .before .before in
     let l = c .before .loop in
-    let e : l .j ≡ y .args .q =
-    omega arith in
+    let y = c .before .before .before .before in
+    let x = y .before .before .before .before in
+    let s = x .before .before .before .before .before .before .before in
+    let e : l .j ≡ s .args .q = omega arith in
     record {
       rows = rw e at (l .inv .2 .rows);
-      rest = outside-then
-          (x .start-rows .ensures .rest) (l .inv .2 .rest);
+      rest = outside-then (outside-then (x .start-rows .ensures .rest) (y .separate-rows .ensures .rest))
+          (l .inv .2 .rest);
     }
 
 pub build-rows-spec : {M : Type 1} → statement M
@@ -76,8 +80,9 @@ build-rows-spec =
     Inv-loop
     μ-loop
     start-rows-requires
+    separate-rows-requires
     loop-holds
-    strike-rule-requires
+    apply-rule-requires
     (λ c. search needs)
     (λ c. search needs)
     loop-again

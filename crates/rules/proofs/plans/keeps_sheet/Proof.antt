@@ -10,8 +10,8 @@ returns : tie.Need-returns
 unfolding keepsJob keeps
 returns c = rw (← c .before .cells-listed .ensures, not-true (c .before .cells-listed .result) (c .if1 .taken))
 
-rules-kept-requires : tie.Need-rules-kept-requires
-rules-kept-requires c κs =
+links-kept-requires : tie.Need-links-kept-requires
+links-kept-requires c κs =
     let h = c .before .before .before .before .pre in
     record {
       accepted = h .0;
@@ -23,7 +23,7 @@ returns-2 : tie.Need-returns-2
 unfolding keepsJob keeps
 returns-2 c =
     let h = c .before .before .cells-listed in rw (← h .ensures, not-false (h .result) (c .before .if1 .left))
-    (c .rules-kept .ensures)
+    (c .links-kept .ensures)
 
 pub keeps-sheet-spec : {M : Type 1} → statement M
 keeps-sheet-spec =
@@ -31,5 +31,5 @@ keeps-sheet-spec =
     (tie.spec
     (λ c κs. search needs)
     returns
-    rules-kept-requires
+    links-kept-requires
     returns-2)

@@ -1,0 +1,194 @@
+-- Laws of the pair test over the rules of a sheet: the rule of two links, where it stands, and that there is one at
+-- most.
+use Prim.Native.Nat.{ℕ, zero, suc, _+_, _≤_, _<_}
+use mathlib.Core.Path.{_≡_, refl, sym}
+use mathlib.Core.List.{List}
+use mathlib.Core.Logic.{_⊎_, inl, inr}
+use mathlib.Core.Bool.{Bool, true, false, _&&_, _||_}
+use native.Mathlib.Decide.{decLt}
+use native.Mathlib.Omega.{arith}
+use native.Mathlib.Numerals.{add-one}
+use lib.Dec.{eqb, ltb, leb}
+use borrow.Author.Tests.{eqb-true, ltb-true, eq-eqb, lt-ltb, le-leb, lt-leb}
+use Rattle.sets.specs.Below.{all}
+use Rattle.sets.proofs.Below.{all-in}
+use Rattle.sets.proofs.Tests.{clash, bool, is-false, iff, below, and-l, and-r, and-in, or-l, or-r, or-case}
+use Rattle.sheet_rows.specs.Rows.{freq, ruleA, ruleB}
+use Rattle.sheet.specs.Sheet.{before}
+use Rattle.sheet.proofs.Rules.{rule-after}
+use Rattle.rules.specs.Pairs.{ofLinks, differ, allows, joins}
+use Rattle.rules.specs.Parts.{Parts}
+use Rattle.rules.specs.Asked.{ComeBefore, Sought}
+use Rattle.rules.proofs.Laws.{rule-links}
+
+-- the links of a rule
+
+pub of-in : (rs : List ℕ) (a b j : ℕ) → ruleA rs j ≡ a → ruleB rs j ≡ b → ofLinks rs a b j ≡ true
+unfolding ofLinks
+of-in rs a b j e f = and-in (eq-eqb (ruleA rs j) a e) (eq-eqb (ruleB rs j) b f)
+
+pub of-out : (rs : List ℕ) (a b j : ℕ) → ofLinks rs a b j ≡ true → (ruleA rs j ≡ a) × (ruleB rs j ≡ b)
+unfolding ofLinks
+of-out rs a b j h = (
+  eqb-true (ruleA rs j) a (and-l (eqb (ruleA rs j) a) _ h),
+  eqb-true (ruleB rs j) b (and-r (eqb (ruleA rs j) a) _ h),
+)
+
+pub of-not : (rs : List ℕ) (a b j : ℕ) → (ruleA rs j ≡ a → ruleB rs j ≡ b → ⊥) → ofLinks rs a b j ≡ false
+of-not rs a b j h = is-false _ (λ t. let o = of-out rs a b j t in h (o .0) (o .1))
+
+-- the order of links
+
+before-lower : (a b c d : ℕ) → a < c → before a b c d ≡ true
+unfolding before
+before-lower a b c d h = or-l (eqb a c && ltb b d) (lt-ltb a c h)
+
+before-higher : (a b c d : ℕ) → a ≡ c → b < d → before a b c d ≡ true
+unfolding before
+before-higher a b c d e h = or-r (ltb a c) (and-in (eq-eqb a c e) (lt-ltb b d h))
+
+before-out {ℓ} : {A : Type ℓ} (a b c d : ℕ) → before a b c d ≡ true → (a < c → A) → (a ≡ c → b < d → A) → A
+unfolding before
+before-out {A = A} a b c d h f g = go (or-case (ltb a c) (eqb a c && ltb b d) h)
+  where
+    go : (ltb a c ≡ true) ⊎ ((eqb a c && ltb b d) ≡ true) → A
+    go (inl e) = f (ltb-true a c e)
+    go (inr e) = g (eqb-true a c (and-l (eqb a c) (ltb b d) e)) (ltb-true b d (and-r (eqb a c) (ltb b d) e))
+
+-- rules that come before two links come before any later ones
+pub none-before : (rs : List ℕ) (a b : ℕ) → ComeBefore rs a b 0
+none-before rs a b = record { each = λ i l. absurd (omega arith) }
+
+pub before-more : {rs : List ℕ} {a b j : ℕ} → ComeBefore rs a b j → before (ruleA rs j) (ruleB rs j) a b ≡ true
+    → ComeBefore rs a b (j + 1)
+before-more {j = j} h e = record { each = λ i l. below i j (omega arith) (h .each i) (λ q. rw q e) }
+
+pub before-link : {rs : List ℕ} {a b j : ℕ} (c d : ℕ) → a < c → ComeBefore rs a b j → ComeBefore rs c d j
+before-link {rs} {a} {b} c d g h = record {
+  each = λ i l. before-out (ruleA rs i) (ruleB rs i) a b (h .each i l)
+      (λ x. before-lower (ruleA rs i) (ruleB rs i) c d (omega arith))
+      (λ e x. before-lower (ruleA rs i) (ruleB rs i) c d (omega arith));
+}
+
+pub before-next : {rs : List ℕ} {a b j : ℕ} (d : ℕ) → b ≤ d → ComeBefore rs a b j → ComeBefore rs a d j
+before-next {rs} {a} {b} d g h = record {
+  each = λ i l. before-out (ruleA rs i) (ruleB rs i) a b (h .each i l)
+      (λ x. before-lower (ruleA rs i) (ruleB rs i) a d x)
+      (λ e x. before-higher (ruleA rs i) (ruleB rs i) a d e (omega arith));
+}
+
+-- the pair test
+
+differ-turned : (fs : List ℕ) (u v : ℕ) → differ fs u v ≡ differ fs v u
+unfolding differ
+differ-turned fs u v = rw (iff (eqb (freq fs u) (freq fs v)) (eqb (freq fs v) (freq fs u))
+    (λ e. eq-eqb _ _ (sym (eqb-true (freq fs u) _ e))) (λ e. eq-eqb _ _ (sym (eqb-true (freq fs v) _ e))))
+
+module _ (ls fs rs ps : List ℕ) where
+  -- it says what every rule of the two links says and, without one, what is asked of the frequencies
+  pub joins-when : (m a b u v : ℕ) (x : Bool)
+      → ((j : ℕ) → j < m → ofLinks rs a b j ≡ true → allows ls fs rs ps j u v ≡ x)
+      → ((j : ℕ) → j < m → ofLinks rs b a j ≡ true → allows ls fs rs ps j v u ≡ x)
+      → (((j : ℕ) → j < m → (ofLinks rs a b j ≡ false) × (ofLinks rs b a j ≡ false)) → differ fs u v ≡ x)
+      → joins ls fs rs ps m a b u v ≡ x
+  unfolding joins
+  joins-when zero a b u v x f g h = h (λ j l. absurd (omega arith))
+  joins-when (suc m) a b u v x f g h = bool (ofLinks rs a b m)
+      (λ e. rw e (f m (omega arith) e))
+      (λ e. bool (ofLinks rs b a m)
+      (λ d. rw (e, d) (g m (omega arith) d))
+      (λ d. rw (e, d) (joins-when m a b u v x (λ j l. f j (omega arith)) (λ j l. g j (omega arith))
+      (λ n. h (λ j l. below j m l (n j) (λ q. rw q (e, d)))))))
+
+  -- one rule more: of these links, of these links turned round, or of others
+  pub joins-own : (m a b u v : ℕ) → ofLinks rs a b m ≡ true → joins ls fs rs ps (m + 1) a b u v
+      ≡ allows ls fs rs ps m u v
+  unfolding joins
+  joins-own m a b u v h = rw (add-one, h)
+
+  pub joins-turn : (m a b u v : ℕ) → ofLinks rs a b m ≡ false → ofLinks rs b a m ≡ true
+      → joins ls fs rs ps (m + 1) a b u v ≡ allows ls fs rs ps m v u
+  unfolding joins
+  joins-turn m a b u v g h = rw (add-one, g, h)
+
+  pub joins-past : (m a b u v : ℕ) → ofLinks rs a b m ≡ false → ofLinks rs b a m ≡ false
+      → joins ls fs rs ps (m + 1) a b u v ≡ joins ls fs rs ps m a b u v
+  unfolding joins
+  joins-past m a b u v g h = rw (add-one, g, h)
+
+  -- the same of the links turned round
+  pub joins-turned : (m a b u v : ℕ) → (a ≡ b → ⊥) → joins ls fs rs ps m a b u v ≡ joins ls fs rs ps m b a v u
+  unfolding joins
+  joins-turned zero a b u v ne = differ-turned fs u v
+  joins-turned (suc m) a b u v ne = bool (ofLinks rs a b m)
+      (λ e. bool (ofLinks rs b a m)
+      (λ d. absurd (ne (omega (arith, of-out rs a b m e, of-out rs b a m d))))
+      (λ d. rw (e, d)))
+      (λ e. rw (e, joins-turned m a b u v ne))
+
+module _ {ls fs rs ps : List ℕ} {k n q t : ℕ} (P : Parts ls fs rs ps k n q t) where
+  -- a rule of links a < b is no rule of b and a
+  pub not-turned : (a b i : ℕ) → a < b → i < q → ofLinks rs b a i ≡ true → ⊥
+  not-turned a b i l h e = let o = rule-links P i h in omega (arith, of-out rs b a i e, o)
+
+  -- two rules of the same links are one
+  pub one-rule : (i j : ℕ) → i < q → j < q → ruleA rs i ≡ ruleA rs j → ruleB rs i ≡ ruleB rs j → i ≡ j
+  one-rule i j a b e f = go (decLt i j) (decLt j i)
+    where
+      go : Dec (i < j) → Dec (j < i) → i ≡ j
+      go (yes l) d = let r = rule-after rs k q t i j (P .rules) l b in let z = r .higher e in absurd (omega arith)
+      go (no l) (yes d) = let r = rule-after rs k q t j i (P .rules) d a in let z = r .higher (sym e) in
+          absurd (omega arith)
+      go (no l) (no d) = omega arith
+
+  -- until rule j its links have no rule
+  pub joins-yet : (j u v : ℕ) → j < q → joins ls fs rs ps j (ruleA rs j) (ruleB rs j) u v ≡ differ fs u v
+  joins-yet j u v l = let o = rule-links P j l in joins-when ls fs rs ps j (ruleA rs j) (ruleB rs j) u v (differ fs u v)
+      (λ i m e. let x = of-out rs (ruleA rs j) (ruleB rs j) i e in
+      let z = one-rule i j (omega arith) l (x .0) (x .1) in absurd (omega arith))
+      (λ i m e. absurd (not-turned (ruleA rs j) (ruleB rs j) i (o .0) (omega arith) e))
+      (λ n. refl)
+
+  -- the rule of two links stands where it is sought
+  module _ {a b j : ℕ} (S : Sought rs q a b j) (order : a < b) where
+    sought-only : (i : ℕ) → i < q → ofLinks rs a b i ≡ true → i ≡ j
+    sought-only i l h = let o = of-out rs a b i h in go o (decLt i j) (decLt j i)
+      where
+        go : (ruleA rs i ≡ a) × (ruleB rs i ≡ b) → Dec (i < j) → Dec (j < i) → i ≡ j
+        go o (yes x) d = before-out (ruleA rs i) (ruleB rs i) a b (S .earlier .each i x)
+            (λ y. absurd (omega (arith, o))) (λ e y. absurd (omega (arith, o)))
+        go o (no x) (yes d) =
+            let r = rule-after rs k q t j i (P .rules) d l in
+            let z = S .here (omega arith) in
+            late (r .lower) (r .higher) o z (decLt (ruleA rs j) a)
+          where
+            late : ruleA rs j ≤ ruleA rs i → (ruleA rs j ≡ ruleA rs i → ruleB rs j < ruleB rs i)
+                → (ruleA rs i ≡ a) × (ruleB rs i ≡ b) → before (ruleA rs j) (ruleB rs j) a b ≡ false
+                → Dec (ruleA rs j < a) → i ≡ j
+            late lower higher o z (yes y) = clash _ (before-lower (ruleA rs j) (ruleB rs j) a b y) z
+            late lower higher o z (no y) =
+                let e : ruleA rs j ≡ ruleA rs i = omega (arith, o) in
+                let f = higher e in
+                clash _ (before-higher (ruleA rs j) (ruleB rs j) a b (omega (arith, o)) (omega (arith, o))) z
+        go o (no x) (no d) = omega arith
+
+    pub joins-rule : (u v : ℕ) → j < q → ofLinks rs a b j ≡ true
+        → allows ls fs rs ps j u v ≡ joins ls fs rs ps q a b u v
+    joins-rule u v l h = sym (joins-when ls fs rs ps q a b u v (allows ls fs rs ps j u v)
+        (λ i m e. let x = sought-only i m e in rw x refl)
+        (λ i m e. absurd (not-turned a b i order m e))
+        (λ n. clash _ h (n j l .0)))
+
+    pub joins-none : (u v : ℕ) → (j < q → ofLinks rs a b j ≡ false) → differ fs u v ≡ joins ls fs rs ps q a b u v
+    joins-none u v h = sym (joins-when ls fs rs ps q a b u v (differ fs u v)
+        (λ i m e. let x = sought-only i m e in clash (ofLinks rs a b i) e (rw x (h (omega arith))))
+        (λ i m e. absurd (not-turned a b i order m e))
+        (λ n. refl))
+
+-- the loop over the links above a: none of the numbers up to a is one, and each number past it is
+
+pub none-higher : (a : ℕ) (p : ℕ → Bool) → all (a + 1) (λ b. leb b a || p b) ≡ true
+none-higher a p = all-in (a + 1) _ (λ b l. or-l (p b) (le-leb b a (omega arith)))
+
+pub higher-is : {a b : ℕ} {x : Bool} (r : Bool) → a < b → r ≡ x → r ≡ leb b a || x
+higher-is {a} {b} r l e = rw (lt-leb b a l) e

@@ -1,0 +1,31 @@
+-- `trial_parts::even::want_firsts` is safe and ends: l counts up to 72.
+use borrow.Author.Needs.{needs}
+use mathlib.Core.Path.{_≡_}
+use Prim.Native.Nat.{_≤_, _-_}
+use lib.ListN.{length}
+use Rattle.trial_parts.proofs.even.want_firsts.Statement.{statement}
+use Rattle.trial_parts.proofs.even.want_firsts.Tie as tie
+
+abbrev Inv-loop : tie.InvT-loop
+Inv-loop job₀ m l₀ job l = (l ≤ 72) × (length job ≡ length job₀)
+
+abbrev μ-loop : tie.MeasureT-loop
+μ-loop job₀ m l₀ job l = 72 - l
+
+pub want-firsts-spec : {M : Type 1} → statement M
+want-firsts-spec =
+    tie.close
+    (tie.spec
+    Inv-loop
+    μ-loop
+    (λ c. search needs)
+    (λ c κs. search needs)
+    (λ c κs. search needs)
+    (λ c κs. search needs)
+    (λ c κs. search needs)
+    (λ c κs. search needs)
+    (λ c. search needs)
+    (λ c. search needs)
+    (λ c. search needs)
+    (λ c. search needs)
+    (λ c. search needs))
