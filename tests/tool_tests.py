@@ -339,6 +339,9 @@ def _(_):
         need(row == f"   0  A       500.000  {told}", f"{lines}: {row}")
         labels_apart(picture.svg(job, answer))
         need(("tightest pair" in picture.svg(job, answer)) == (lines != "free A B C"), f"{lines}: the tightest pair")
+    job = text.parse("job x\nlink A 500.0\nlink B 500.0\nlink C 500.4\nfree A B")
+    row = planner.table(job.sheet, job.names, Answer("found", 4, [500_000, 500_000, 500_400])).splitlines()[2]
+    need(row == "   1  B       500.000  400 kHz to C (no rule: another frequency); shares its carrier with A", row)
 
 
 @test("why gives the planner's number for damaged sheets")

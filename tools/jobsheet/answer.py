@@ -150,7 +150,7 @@ def width(text):
 
 
 def table(sheet, names, answer):
-    """The plan line by line: link number, name, MHz, and the tightest spacing to another link."""
+    """The plan line by line: link number, name, MHz, the tightest spacing to another link, and who shares its carrier."""
     wide = max([width(name) for name in names] + [4])
     rows = [f"link  name{' ' * (wide - 4)}        MHz  tightest spacing"]
     for link, (name, khz) in enumerate(zip(names, answer.khz)):
@@ -160,6 +160,8 @@ def table(sheet, names, answer):
         else:
             other, = set(near.links) - {link}
             told = f"{near.apart} kHz to {names[other]} ({near.asked()})"
+        shared = [names[other] for other, taken in enumerate(answer.khz) if taken == khz and other != link]
+        told += f"; shares its carrier with {', '.join(shared)}" if shared else ""
         rows.append(f"{link:4}  {name}{' ' * (wide - width(name))}  {mhz(khz):>9}  {told}")
     worst = tightest(sheet, answer.khz)
     if worst:
