@@ -25,9 +25,8 @@ use Rattle.graph.proofs.Graph.{layers-of}
 use Rattle.graph.proofs.Matches.{vertices-clique, vertices-same, keeps-first-k, matches}
 use Rattle.partition.specs.Partition.{classOf}
 use Rattle.search.specs.Tree.{Tree, found, noPlan, nodes}
-use Rattle.search.specs.Order.{UpTo, same, earlier}
 use Rattle.search.specs.Limit.{Answer, plan, none, stopped, answer}
-use Rattle.search.proofs.Order.{upto-same}
+use Rattle.search.proofs.Order.{UpTo, same, earlier, upto-same}
 use Rattle.search.proofs.Tree.{All, Le}
 use Rattle.search.proofs.First.{First}
 use Rattle.search.proofs.Limit.{Follows, answer-follows}
