@@ -10,7 +10,7 @@ use lib.Dec.{eqb, ltb}
 use lib.ListN.{length}
 use borrow.Author.Tests.{eqb-true, eq-eqb, lt-ltb, le-ltb}
 use Rattle.sets.specs.Sets.{Set, _∪_, _∖_, nothing, whole}
-use Rattle.sets.proofs.Tests.{clash, bool, is-false, iff, and-l, and-r}
+use Rattle.sets.proofs.Tests.{clash, bool, is-false, eqb-turned, and-l, and-r}
 use Rattle.sheet_rows.specs.Rows.{linkFirst, linkCount, freq, ruleA, ruleB}
 use Rattle.sheet.proofs.Links.{link-in, link-some}
 use Rattle.sheet.specs.Sheet.{qOf, linkPart, freqPart, rulePart, pairPart}
@@ -92,13 +92,10 @@ separated-row : (ls fs rs ps : List ℕ) (k n u : ℕ)
 unfolding adjacent joins differ onFreq sharing _∖_
 separated-row ls fs rs ps k n u = fun-ext (λ v. bool (linksDiffer ls k n u v) (there v) (λ e. rw e))
   where
-    turned : (x y : ℕ) → eqb x y ≡ eqb y x
-    turned x y = iff _ _ (λ e. eq-eqb y x (sym (eqb-true x y e))) (λ e. eq-eqb x y (sym (eqb-true y x e)))
-
     there : (v : ℕ) → linksDiffer ls k n u v ≡ true
         → linksDiffer ls k n u v && not (ltb v n && eqb (freq fs v) (freq fs u))
         ≡ linksDiffer ls k n u v && not (eqb (freq fs u) (freq fs v))
-    there v e = rw (e, among ls k n u v e, turned (freq fs u) (freq fs v))
+    there v e = rw (e, among ls k n u v e, eqb-turned (freq fs u) (freq fs v))
 
 pub separated-built : {w graph n : ℕ} {p₀ p p′ : List ℕ} (ls fs rs ps : List ℕ) (k : ℕ)
     → Built (linksDiffer ls k n) w graph n p₀ p → Rewritten (separated fs n) 0 n w graph n p p′
@@ -131,8 +128,7 @@ module _ {ls fs rs ps : List ℕ} {k n q t : ℕ} (P : Parts ls fs rs ps k n q t
   allow = allows ls fs rs ps
 
   -- a link's vertices are a stretch, and its layer
-  stretch-layer : (l v : ℕ) → l < k → v < n → of l v
-      ≡ eqb l (layerOf ls k v)
+  stretch-layer : (l v : ℕ) → l < k → v < n → of l v ≡ eqb l (layerOf ls k v)
   unfolding stretch
   stretch-layer l v h b = link-test ls k n (P .links) l v h b
 

@@ -16,7 +16,7 @@ use Rattle.graph.specs.declared.Side.{Side}
 unfoldable pub stretch : ℕ → ℕ → Set
 stretch a b v = leb a v && ltb v b
 
--- rule row j seen from its link a, whose rows are struck, to its other link b; turned where a is the higher of the two
+-- rule row j seen from its link a, whose rows it changes, to its other link b; turned where a is the higher of the two
 abbrev pub sideOf : List ℕ → List ℕ → ℕ → Bool → ℕ → ℕ → Side
 sideOf ls rs j turned a b = record {
   kind = ruleKind rs j;
@@ -29,7 +29,7 @@ sideOf ls rs j turned a b = record {
   end = linkFirst ls b + linkCount ls b;
 }
 
--- "positions (from 0) in the lists of a and of b": those of pair row i in the list of the struck rows' link, and in
+-- "positions (from 0) in the lists of a and of b": those of pair row i in the list of the changed rows' link, and in
 -- that of the other
 unfoldable pub ownPlace : List ℕ → Bool → ℕ → ℕ
 ownPlace ps turned i = cond turned (pairSecond ps i) (pairFirst ps i)
@@ -77,8 +77,8 @@ pub record SideFits (fs ps : List ℕ) (n : ℕ) (s : Side) : Type 0 where
   pub other : s .end ≤ n
   pub pairs : s .kind ≡ 3 → PairsFit ps s
 
--- each row of the link that is struck has every vertex of the other link that a rule of kind 1 or 2 allows: such a rule
--- strikes, where one of kind 3 writes the other link's part of a row anew
+-- each row that the rule changes has every vertex of the other link that it allows, where it is of kind 1 or 2: such a
+-- rule strikes, and one of kind 3 writes the other link's part of a row anew
 pub record Full (fs ps : List ℕ) (s : Side) (w graph : ℕ) (p : List ℕ) : Type 0 where
   pub row : (s .kind ≡ 3 → ⊥) → (u : ℕ) → s .from ≤ u → u < s .upto → allowed fs ps s u ⊆ rowAt p w graph u
 

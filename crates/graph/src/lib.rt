@@ -26,8 +26,8 @@ use strike::rule_side;
 use strike::side;
 
 // One side of a rule row: its kind, value and count; the vertices of one of its links, from `from` up to `upto`, whose
-// rows are struck; and those of its other link, from `first` up to `end`, which are struck from them. `turned` where
-// the other link is the lower one.
+// rows it changes; and those of its other link, from `first` up to `end`, of which it leaves there what it allows.
+// `turned` where the other link is the lower one.
 struct Side {
     pub kind: usize,
     pub value: usize,

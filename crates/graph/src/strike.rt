@@ -7,8 +7,7 @@ ghost use Rattle.sheet_rows.specs.Rows.{freqBytes, linkBytes, ruleBytes, pairBy
 ghost use Rattle.rows.specs.Rows.{setAt, rowAt, Put};
 ghost use Rattle.graph.specs.Rows.{RowsFit};
 ghost use Rattle.graph.specs.Strikes.{stretch, sideOf, ownPlace, otherPlace, partner, partners, clashing};
-ghost use Rattle.graph.specs.Strikes.{allowed};
-ghost use Rattle.graph.specs.Strikes.{underRule, PairsFit, SideFits, Full, Rewritten};
+ghost use Rattle.graph.specs.Strikes.{allowed, underRule, PairsFit, SideFits, Full, Rewritten};
 use crate::Side;
 use crate::span::take_span;
 use cliques::Place;
@@ -83,7 +82,7 @@ fn strike_near(part: &mut [u64], w: usize, to: usize, fs: &[u8], s: Side, x: usi
     }
 }
 
-// The position of pair row i in the list of the struck rows' link.
+// The position of pair row i in the list of the changed rows' link.
 fn own_place(ps: &[u8], turned: bool, i: usize) -> usize
     requires { ⌜ pairBytes * i + pairBytes ≤ length (now ps) ⌝ }
     ensures { λ r. ⌜ r ≡ ownPlace (now (ps .entry)) turned i ⌝ }

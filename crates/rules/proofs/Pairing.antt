@@ -12,7 +12,7 @@ use lib.Dec.{eqb, ltb, leb}
 use borrow.Author.Tests.{eqb-true, ltb-true, eq-eqb, lt-ltb, le-leb, lt-leb}
 use Rattle.sets.specs.Below.{all}
 use Rattle.sets.proofs.Below.{all-in}
-use Rattle.sets.proofs.Tests.{clash, bool, is-false, iff, below, and-l, and-r, and-in, or-l, or-r, or-case}
+use Rattle.sets.proofs.Tests.{clash, bool, is-false, below, eqb-turned, and-l, and-r, and-in, or-l, or-r, or-case}
 use Rattle.sheet_rows.specs.Rows.{freq, ruleA, ruleB}
 use Rattle.sheet.specs.Sheet.{before}
 use Rattle.sheet.proofs.Rules.{rule-after}
@@ -81,8 +81,7 @@ before-next {rs} {a} {b} d g h = record {
 
 differ-turned : (fs : List ℕ) (u v : ℕ) → differ fs u v ≡ differ fs v u
 unfolding differ
-differ-turned fs u v = rw (iff (eqb (freq fs u) (freq fs v)) (eqb (freq fs v) (freq fs u))
-    (λ e. eq-eqb _ _ (sym (eqb-true (freq fs u) _ e))) (λ e. eq-eqb _ _ (sym (eqb-true (freq fs v) _ e))))
+differ-turned fs u v = rw (eqb-turned (freq fs u) (freq fs v))
 
 module _ (ls fs rs ps : List ℕ) where
   -- it says what every rule of the two links says and, without one, what is asked of the frequencies

@@ -65,6 +65,9 @@ not-out false h = refl
 pub not-in : {a : Bool} → a ≡ false → not a ≡ true
 not-in h = rw h refl
 
+pub eqb-turned : (x y : ℕ) → eqb x y ≡ eqb y x
+eqb-turned x y = iff _ _ (λ e. eq-eqb y x (sym (eqb-true x y e))) (λ e. eq-eqb x y (sym (eqb-true y x e)))
+
 -- i < m + 1 is i < m or i ≡ m
 pub below {ℓ} : {A : Type ℓ} (i m : ℕ) → i < suc m → (i < m → A) → (i ≡ m → A) → A
 below i m h f g = bool (eqb i m) (λ e. g (eqb-true i m e)) (λ e. f (ne-lt (λ q. clash (eqb i m) (eq-eqb i m q) e)))
