@@ -24,6 +24,12 @@ def spaced(seed, links, frequencies, band, density, value):
     return Sheet(lists, rules)
 
 
+def edged(seed, links, frequencies, band, density, value):
+    """The same in form 2: links 25 to 375 kHz wide, this value between edges."""
+    sheet, rng = spaced(seed, links, frequencies, band, density, value), random.Random(seed)
+    return Sheet(sheet.links, sheet.rules, [rng.choice((25, 200, 375)) for _ in sheet.links])
+
+
 def tables(seed, links, frequencies, density, allowed):
     """A kind 3 rule of so many random pairs for each two links with this likelihood."""
     rng = random.Random(seed)
@@ -71,6 +77,7 @@ def samples(quick=False):
     found += [Sample("theatre", f"16 links, seed {seed}", theatre(seed)) for seed in range(1, 1 + min(most, 2))]
     found += [Sample("64 × 8 loose", f"seed {seed}", spaced(seed, 64, 8, 10_000, 0.3, 500)) for seed in range(1, 1 + min(most, 2))]
     found += [Sample("64 × 8 near the edge", f"seed {seed}", spaced(seed, 64, 8, 10_000, 0.05, 3200)) for seed in range(1, 1 + most)]
+    found += [Sample("64 × 8 near the edge, form 2", f"seed {seed}", edged(seed, 64, 8, 10_000, 0.05, 3000)) for seed in range(1, 1 + min(most, 2))]
     found += [Sample("20 × 25 near the edge", f"seed {seed}", spaced(seed, 20, 25, 10_000, 0.3, 2950)) for seed in range(1, 1 + most)]
     for links, density, allowed in ((20, 0.4, 39), (25, 0.32, 39), (30, 0.27, 39)):
         found += [Sample("tables near the edge", f"{links} × 8, seed {seed}", tables(seed, links, 8, density, allowed))

@@ -8,7 +8,7 @@ import signal
 import subprocess
 from dataclasses import dataclass
 
-from jobsheet.binary import EXACT, LISTED, SPACING, Rule
+from jobsheet.binary import EXACT, LISTED, SPACING
 
 
 @dataclass
@@ -39,12 +39,17 @@ def timed(command, seconds):
 
 def allowed(sheet, rule):
     """The test of a rule on positions in the lists of its links."""
-    first, second, listed = sheet.links[rule.a], sheet.links[rule.b], set(rule.pairs)
+    first, second, listed, least = sheet.links[rule.a], sheet.links[rule.b], set(rule.pairs), least_apart(sheet, rule)
     if rule.kind == SPACING:
-        return lambda p, q: abs(first[p] - second[q]) >= rule.value
+        return lambda p, q: abs(first[p] - second[q]) >= least
     if rule.kind == EXACT:
         return lambda p, q: abs(first[p] - second[q]) == rule.value
     return lambda p, q: (p, q) in listed
+
+
+def least_apart(sheet, rule):
+    """The least whole number of kHz between two frequencies that keeps a spacing: in form 2 half the widths come on top."""
+    return rule.value + (sheet.widths[rule.a] + sheet.widths[rule.b] + 1) // 2 if sheet.widths else rule.value
 
 
 def unruled(sheet):
@@ -56,10 +61,12 @@ def unruled(sheet):
 
 def forbidden(sheet):
     """(a, b, the pairs of positions that are not allowed) for each rule, and for links without one where they share a frequency."""
-    for rule in [*sheet.rules, *(Rule(a, b, SPACING, 1) for a, b in unruled(sheet))]:
+    for rule in sheet.rules:
         test = allowed(sheet, rule)
         every = itertools.product(range(len(sheet.links[rule.a])), range(len(sheet.links[rule.b])))
         yield rule.a, rule.b, [(p, q) for p, q in every if not test(p, q)]
+    for a, b in unruled(sheet):
+        yield a, b, [(p, sheet.links[b].index(khz)) for p, khz in enumerate(sheet.links[a]) if khz in sheet.links[b]]
 
 
 class Cadical:
@@ -122,8 +129,8 @@ class Gecode:
                 rows = " | ".join(f"{sheet.links[rule.a][p]}, {sheet.links[rule.b][q]}" for p, q in rule.pairs)
                 lines.append(f"constraint table([f{rule.a}, f{rule.b}], [| {rows} |]);")
             else:
-                sign = ">=" if rule.kind == SPACING else "="
-                lines.append(f"constraint abs(f{rule.a} - f{rule.b}) {sign} {rule.value};")
+                asked = f">= {least_apart(sheet, rule)}" if rule.kind == SPACING else f"= {rule.value}"
+                lines.append(f"constraint abs(f{rule.a} - f{rule.b}) {asked};")
         lines += [f"constraint f{a} != f{b};" for a, b in unruled(sheet)]
         lines.append("solve satisfy;")
         model, flat = path.with_suffix(".mzn"), path.with_suffix(".fzn")

@@ -1,8 +1,8 @@
 /* Guvtemi's two calls for a console's C or C++ program. Link with target/staticlib/libconsole.a
    (written by `rt staticlib console`; x86-64).
 
-   A sheet is bytes as in docs/FORMAT.md. Cells are bytes too: four a cell, little-endian, the kHz of one link each,
-   in link order.
+   A sheet is bytes as in docs/FORMAT.md, of form 1 or 2. Cells are bytes too: four a cell, little-endian, the kHz of one
+   link each, in link order.
 
    The caller keeps three things:
    - a pointer is null only where its length is 0;
@@ -23,7 +23,7 @@
 extern "C" {
 #endif
 
-/* Numbers of an answer. 1 to 12 are refusals: README.md lists them. */
+/* Numbers of an answer. 1 to 12 and 16 are refusals: README.md lists them. */
 enum {
     GUVTEMI_NO = 0,        /* check: the cells are no plan of this sheet */
     GUVTEMI_YES = 100,     /* check: the cells are a plan that keeps every rule */
@@ -35,7 +35,7 @@ enum {
 /* Limits of a sheet and of the node limit. */
 enum {
     GUVTEMI_MOST_LINKS = 64,
-    GUVTEMI_MOST_SHEET_BYTES = 59304,
+    GUVTEMI_MOST_SHEET_BYTES = 59560,  /* of form 2; of form 1 59304 */
     GUVTEMI_MOST_NODES = 1000000000
 };
 
@@ -50,7 +50,8 @@ uint64_t guvtemi_plan(const uint8_t *sheet, size_t sheet_len, uint32_t filter, u
                       const uint8_t *classes, size_t classes_len, uint8_t *cells, size_t cells_len);
 
 /* Checks cells against a sheet: GUVTEMI_YES exactly if each link's cell is in its list, all rules hold, and links
-   without a rule differ in frequency; GUVTEMI_NO if not, or the refusal's number. Writes nothing. */
+   without a rule differ in frequency; GUVTEMI_NO if not, or the refusal's number. A sheet of form 2 is judged by its
+   links' widths. Writes nothing. */
 uint64_t guvtemi_check(const uint8_t *sheet, size_t sheet_len, const uint8_t *cells, size_t cells_len);
 
 /* The answer's number and the nodes in what guvtemi_plan returned. */

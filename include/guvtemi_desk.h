@@ -1,8 +1,8 @@
 /* Guvtemi's calls for a planner's desk: a sheet's graph as DIMACS text, and a sheet from such a text. Link with
    target/staticlib/libdesk.a (written by `rt staticlib desk`; x86-64).
 
-   A sheet is bytes as in docs/FORMAT.md. The two texts are those of docs/DIMACS.md; a text is just the bytes lent, with no
-   zero at its end.
+   A sheet is bytes as in docs/FORMAT.md, of form 1 or 2. The two texts are those of docs/DIMACS.md; a text is just the
+   bytes lent, with no zero at its end.
 
    The caller keeps three things:
    - a pointer is null only where its length is 0;
@@ -22,7 +22,7 @@
 extern "C" {
 #endif
 
-/* Causes of these calls. 1 to 8 are the sheet's refusals: README.md lists them. */
+/* Causes of these calls. 1 to 8 and 16 are the sheet's refusals: README.md lists them. */
 enum {
     GUVTEMI_WRITTEN = 0,     /* no refusal: the outputs hold the result */
     GUVTEMI_MALFORMED = 13,  /* import: a text is malformed, or beyond 64 links or 512 frequencies */
@@ -42,7 +42,7 @@ enum {
    counts   the number of frequencies of each link, one a line
    Both are zero past what is written, and wholly zero on a refusal; both lengths are then 0.
    Returns the graph text's length plus 2^32 times the count text's length plus 2^48 times the cause:
-   0, 1 to 8, or 15. */
+   0, 1 to 8, 15 or 16. */
 uint64_t guvtemi_export(const uint8_t *sheet, size_t sheet_len, uint8_t *graph, size_t graph_len,
                         uint8_t *counts, size_t counts_len);
 

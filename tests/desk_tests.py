@@ -9,7 +9,7 @@ import reading
 import samples
 from desk_samples import EXPORT, IMPORT, MOST_COUNT_BYTES, MOST_GRAPH_BYTES, DeskCall
 from harness import EXAMPLES, need, test
-from jobsheet.binary import LISTED, Rule, Sheet, encode
+from jobsheet.binary import LISTED, SPACING, Rule, Sheet, encode
 from native import DESK_ARCHIVE, SANITIZE
 
 GUARDED = ["-O2", "-DGUARD=64"]
@@ -54,7 +54,7 @@ def _(args):
     for _ in range(0, args.cases, 500):
         calls = [call for _ in range(500) for call in desk_samples.random_calls(rng)]
         seen += compare(calls, native.desk_answers(driver(), calls))
-    missing = [cause for cause in [("export", c) for c in (0, *range(1, 9), 15)] + [("import", c) for c in (0, 13, 14, 15)] if not seen[cause]]
+    missing = [cause for cause in [("export", c) for c in (*range(9), 15, 16)] + [("import", c) for c in (0, 13, 14, 15)] if not seen[cause]]
     need(not missing, f"no call gave {missing}")
     return told(seen)
 
@@ -101,6 +101,24 @@ def _(_):
     for (sheet, edges), (_, _, (graph, _)) in zip(wanted_edges, native.desk_answers(driver(), calls)):
         lines = graph.rstrip(b"\0").decode().splitlines()
         need(lines == [f"p edge {sheet.frequencies()} {len(edges)}", *edges], f"{sheet}: {lines}")
+
+
+@test("export: widths count in form 2, cause 16 is in its place, and what comes back is of form 1")
+def _(_):
+    lists, rules = [[500_000, 500_400], [500_000, 500_300]], [Rule(0, 1, SPACING, 300)]
+    for widths, edges in ((None, ["e 1 4", "e 2 3"]), ([30, 50], ["e 2 3"]), ([100, 100], ["e 2 3"]), ([100, 101], [])):
+        data = encode(Sheet(lists, rules, widths))
+        (_, _, (graph, _)), = native.desk_answers(driver(), [DeskCall(EXPORT, [data], [bytes(100), bytes(10)])])
+        lines = graph.rstrip(b"\0").decode().splitlines()
+        need(lines == [f"p edge 4 {len(edges)}", *edges], f"widths {widths}: {lines}")
+        back, = trips([data])
+        need(back[:4] == b"\x01\0\0\0", f"widths {widths}: import writes the form {back[:4]}")
+    sheets = list(samples.form_sheets())
+    calls = [DeskCall(EXPORT, [data], [b"\xee" * 100, b"\xee" * 10]) for _, _, data in sheets]
+    found = native.desk_answers(driver(), calls)
+    for (name, cause, _), (returned, _, _) in zip(sheets, found):
+        need(returned >> 48 == cause, f"{name}: export says {returned >> 48}, wanted {cause}")
+    return told(compare(calls, found))
 
 
 # ---- Export, then import

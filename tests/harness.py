@@ -35,5 +35,5 @@ def example_answers():
     """The tables of examples/README.md: sheet file, what the planner answers, and the whole row."""
     page = (EXAMPLES / "README.md").read_text(encoding="utf-8")
     rows = [(sheet, answer, row) for row, sheet, answer in re.findall(r"^(\| `([^`]+\.sheet)` \|.*?\| `([a-z]+ \d+)`.*)$", page, re.MULTILINE)]
-    need(len(rows) >= 11, f"examples/README.md lists {len(rows)} sheets with answers")
+    need(len(rows) >= 13, f"examples/README.md lists {len(rows)} sheets with answers")
     return rows

@@ -108,7 +108,8 @@ def _(args):
     for _ in range(0, args.cases, 500):
         calls = [samples.random_call(rng) for _ in range(500)]
         seen += compare(calls, native.answers(driver, calls))
-    missing = [number for number in (1, 2, 3, 4, 5, 6, 7, 8, 9, 10, 12, 100, 101, 102, "check 0", "check 100", "check 10") if not seen[number]]
+    wanted = (*range(1, 11), 12, 16, 100, 101, 102, "check 0", "check 10", "check 16", "check 100")
+    missing = [number for number in wanted if not seen[number]]
     need(not missing, f"no call gave {missing}")
     return f"{sum(seen.values()):,} calls, every number"
 
@@ -146,6 +147,43 @@ def _(_):
     compare(calls, found)
     printed = printed_by_program(encode(samples.UNRULED))
     need(printed == "none 0\n", f"the program says {printed!r}")
+
+
+@test("the two forms and cause 16: each number in its place, in both functions and the program")
+def _(_):
+    driver = native.build("tests/driver.c", "driver", ["-O2"])
+    sheets = list(samples.form_sheets())
+    calls = [call for _, _, data in sheets for call in (samples.Call(data), samples.Call(data, 7, 0, 1, b"", bytes(8)))]
+    found = native.answers(driver, calls)
+    for index, (name, cause, data) in enumerate(sheets):
+        checked, planned = found[2 * index][0], found[2 * index + 1][0]
+        need(checked == (cause or 10), f"{name}: the check says {checked}, wanted {cause or 10}")
+        need(planned == cause << 32 if cause else planned >> 32 >= 100, f"{name}: planning says {planned >> 32}, wanted {cause or 'a verdict'}")
+        need(not cause or printed_by_program(data) == f"refused {cause}\n", f"{name}: the program says {printed_by_program(data)!r}")
+    compare(calls, found)
+    need(max(len(data) for _, data in samples.limit_sheets() if reading.refusal(data) == 0) == header_number("guvtemi.h", "GUVTEMI_MOST_SHEET_BYTES"),
+         "GUVTEMI_MOST_SHEET_BYTES is not the length of the largest sheet")
+    return f"{len(sheets)} sheets"
+
+
+def header_number(header, name):
+    """A number that a header defines."""
+    return int(re.search(rf"\b{name} = (\d+)", (ROOT / "include" / header).read_text(encoding="utf-8")).group(1))
+
+
+@test("spacing between edges: met and missed by half a kHz; kind 2, listed pairs and links without a rule stay on centres")
+def _(_):
+    driver = native.build("tests/driver.c", "driver", ["-O2"])
+    calls, wanted = [], []
+    for allowed, sheet in samples.edge_sheets():
+        data, cells = encode(sheet), struct.pack("<2I", sheet.links[0][0], sheet.links[1][0])
+        calls += [samples.Call(data, 0, 0, 1_000_000, b"", bytes(8)), samples.Call(data, cells=cells)]
+        wanted += [(100 << 32) + 3 if allowed else (101 << 32) + 2, reading.YES if allowed else reading.NO]
+    found = native.answers(driver, calls)
+    for call, number, (returned, _, _) in zip(calls, wanted, found):
+        need(returned == number, f"returned {returned >> 32} and {returned % 2**32}, wanted {number >> 32} and {number % 2**32}: {call}")
+    compare(calls, found)
+    return f"{len(calls)} calls"
 
 
 @test("both functions: no complaint of valgrind")

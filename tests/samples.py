@@ -9,7 +9,7 @@ from jobsheet.binary import EXACT, LISTED, SPACING, Rule, Sheet, encode
 
 UNRULED = Sheet([[500_000], [500_000]], [])  # the rule-less sheet of the scope: no plan
 EDGES = (0, 1, 2, 3, 4, 39, 40, 63, 64, 65, 255, 256, 511, 512, 513, 2016, 2017, 8192, 8193, 32767, 32768, 65535)
-WIDE_EDGES = EDGES + (65536, 9_999_999, 10_000_000, 2**31 - 1, 2**31, 2**32 - 1)
+WIDE_EDGES = EDGES + (20_000, 20_001, 65536, 9_999_999, 10_000_000, 2**31 - 1, 2**31, 2**32 - 1)
 
 
 def random_sheet(rng, most_links=6, most_frequencies=5):
@@ -26,7 +26,13 @@ def random_sheet(rng, most_links=6, most_frequencies=5):
                 pairs = _random_pairs(rng, links[a], links[b])
                 if pairs:
                     rules.append(Rule(a, b, LISTED, 0, pairs))
-    return Sheet(links, rules)
+    return Sheet(links, rules, random_widths(rng, len(links), (1, 2, 3, 5, 5, 9, 20_000)))
+
+
+def random_widths(rng, count, tops):
+    """A width for each link, up to one of these tops, or None, so that the sheet is of form 1."""
+    top = rng.choice(tops)
+    return [rng.choice((rng.randint(1, top), top)) for _ in range(count)] if rng.random() < 0.5 else None
 
 
 def _random_pairs(rng, first, second):
@@ -57,7 +63,7 @@ def wide_sheet(rng):
                 pairs_left -= len(pairs)
                 if pairs:
                     rules.append(Rule(a, b, LISTED, 0, pairs))
-    return Sheet(links, rules)
+    return Sheet(links, rules, random_widths(rng, len(links), (1, 25, 200, 20_000)))
 
 
 def limit_sheets():
@@ -65,11 +71,16 @@ def limit_sheets():
     every = [(a, b) for a in range(64) for b in range(a + 1, 64)]
     eights = [[500_000 + 400 * (8 * a + i) for i in range(8)] for a in range(64)]
     half = [list(range(1, 257)), list(range(1000, 1256))]
+    widths = [(200, 1, 399, 800)[a % 4] for a in range(64)]
+    fullest = [Rule(a, b, LISTED, 0, [(p, p) for p in range(5 if number < 128 else 4)]) for number, (a, b) in enumerate(every)]
     shared = [sorted(500_000 + 25 * ((7 * a + 3 * i) % 40) for i in range(8)) for a in range(64)]
     pairs = [(p, q) for p in range(256) for q in range(256)]
     return [
         ("64 links, 512 frequencies, 2,016 rules", encode(Sheet(eights, [Rule(a, b, SPACING, 400) for a, b in every]))),
         ("2,016 rules of kind 3", encode(Sheet(eights, [Rule(a, b, LISTED, 0, [(p, p) for p in range(4)]) for a, b in every]))),
+        ("the largest sheet of form 1", encode(Sheet(eights, fullest))),
+        ("the largest sheet of form 2", encode(Sheet(eights, fullest, [1, 20_000] * 32))),
+        ("64 links, 512 frequencies, 2,016 rules, form 2", encode(Sheet(eights, [Rule(a, b, SPACING, 400) for a, b in every], widths))),
         ("8,192 pairs in one rule", encode(Sheet(half, [Rule(0, 1, LISTED, 0, pairs[::8])]))),
         ("8,193 pairs", encode(Sheet(half, [Rule(0, 1, LISTED, 0, pairs[:8193])]))),
         ("512 frequencies of one link", encode(Sheet([list(range(1, 513))], []))),
@@ -85,7 +96,68 @@ def limit_sheets():
         ("one past the range", encode(Sheet([[1, 9_999_999], [1, 9_999_999]], [Rule(0, 1, SPACING, 9_999_999)]))),
         ("counts that sum to 65,536 and more", _with_counts([65535, 1, 2])),
         ("no bytes", b""), ("40 zeros", bytes(40)), ("40 ones", b"\xff" * 40), ("only a header", struct.pack("<10I", 1, 1, 1, 0, 0, 40, 44, 48, 48, 48)),
+        *((name, data) for name, _, data in form_sheets()),
     ]
+
+
+# Two links of form 2: their rows at bytes 40 and 48, widths at 44 and 52, frequencies from 56 on, the rule at 72, its pair at 84.
+NARROW = Sheet([[500_000, 500_400], [500_000, 500_300]], [Rule(0, 1, LISTED, 0, [(1, 0)])], [30, 50])
+
+
+def form_sheets():
+    """Small sheets around the two forms and cause 16: (name, cause, 0 where there is none, bytes)."""
+    one, two = encode(Sheet(NARROW.links, NARROW.rules)), encode(NARROW)
+    low, high = ("I", 44, 0), ("I", 52, 20_001)
+    for width, cause in ((0, 16), (1, 0), (20_000, 0), (20_001, 16), (20_300, 16), (2**16, 16), (2**16 + 1, 16), (2**31, 16), (2**32 - 1, 16)):
+        for link in range(2):
+            yield f"link {link} {width} kHz wide", cause, changed(two, ("I", 44 + 8 * link, width))
+    yield "both widths wrong", 16, changed(two, low, high)
+    for name, fault in (("a first frequency", ("H", 48, 1)), ("a count of 0", ("H", 50, 0)), ("the sum", ("H", 50, 3)), ("an earlier count", ("H", 42, 1))):
+        yield f"5 before 16: {name}", 5, changed(two, low, fault)
+    for cause, fault in ((6, ("I", 56, 0)), (6, ("I", 68, 1)), (7, ("H", 76, 4)), (7, ("I", 80, 1)), (8, ("H", 84, 2))):
+        yield f"{cause} alone", cause, changed(two, fault)
+        yield f"16 before {cause}", 16, changed(two, high, fault)
+    yield "1 before 16", 1, changed(two, low, ("I", 0, 3))
+    yield "4 before 16", 4, changed(two, low, ("I", 24, 48))
+    for form, cause in ((0, 1), (2, 4), (3, 1), (2**16 + 1, 1), (2**31 + 1, 1)):
+        yield f"form 1 with form {form} in the header", cause, changed(one, ("I", 0, form))
+    for form, cause in ((0, 1), (1, 4), (3, 1), (2**16 + 2, 1), (2**31 + 2, 1)):
+        yield f"form 2 with form {form} in the header", cause, changed(two, ("I", 0, form))
+    yield "form 2 with rows of 4 bytes and the offsets of 8", 4, two[:40] + one[40:]
+    yield "form 2 with rows of 4 bytes, the offsets and the length of 8", 5, two[:40] + one[40:] + bytes(8)
+    yield "form 2, the last byte missing", 4, two[:-1]
+    yield "form 2, one link, only its row", 4, struct.pack("<10I2HI", 2, 1, 1, 0, 0, 40, 48, 52, 52, 52, 0, 1, 200)
+    yield "form 2, one link, one frequency", 0, struct.pack("<10I2H2I", 2, 1, 1, 0, 0, 40, 48, 52, 52, 52, 0, 1, 20_000, 9_999_999)
+
+
+def changed(data, *changes):
+    """Bytes with other numbers: (H or I, offset, number)."""
+    data = bytearray(data)
+    for layout, at, number in changes:
+        struct.pack_into("<" + layout, data, at, number)
+    return bytes(data)
+
+
+def edge_sheets():
+    """Two links of one frequency each around the rules of form 2: (whether they go together, sheet)."""
+    spaced = [  # (allowed, difference, value, widths): twice the difference against twice the value plus both widths
+        (True, 400, 360, (30, 50)), (False, 399, 360, (30, 50)), (False, 400, 361, (30, 50)), (False, 400, 360, (31, 50)),
+        (False, 400, 360, (30, 51)), (True, 400, 359, (30, 51)), (True, 400, 359, (30, 52)), (False, 400, 359, (30, 53)),
+        (True, 2, 1, (1, 1)), (False, 1, 1, (1, 1)), (False, 2, 1, (1, 2)), (False, 0, 1, (1, 1)),
+        (True, 20_001, 1, (20_000, 20_000)), (False, 20_000, 1, (20_000, 20_000)), (True, 20_001, 1, (19_999, 20_000)),
+        (True, 20_000, 1, (19_999, 19_999)), (False, 20_000, 1, (19_999, 20_000)),
+        (True, 9_999_998, 9_979_998, (20_000, 20_000)), (False, 9_999_998, 9_979_999, (20_000, 20_000)),
+        (False, 9_999_998, 9_999_998, (1, 1)), (False, 9_999_998, 9_999_999, (20_000, 20_000)),
+    ]
+    for allowed, apart, value, widths in spaced:
+        for links in ([[1], [1 + apart]], [[1 + apart], [1]]):
+            yield allowed, Sheet(links, [Rule(0, 1, SPACING, value)], list(widths))
+    yield True, Sheet([[1], [401]], [Rule(0, 1, SPACING, 400)])
+    for apart in (399, 400, 401, 440):  # kind 2 is between centres
+        yield apart == 400, Sheet([[1], [1 + apart]], [Rule(0, 1, EXACT, 400)], [30, 50])
+    for apart in (0, 1):  # no rule, and a listed pair
+        yield apart == 1, Sheet([[500], [500 + apart]], [], [20_000, 20_000])
+        yield True, Sheet([[500], [500 + apart]], [Rule(0, 1, LISTED, 0, [(0, 0)])], [20_000, 20_000])
 
 
 def _with_counts(counts):
@@ -104,7 +176,7 @@ def damaged(rng, data):
     for _ in range(rng.choice((1, 1, 1, 2, 4))):
         if len(data) < 44:
             break
-        rng.choice((_byte, _field, _field, _row, _row, _row, _cut))(rng, data)
+        rng.choice((_byte, _field, _field, _row, _row, _row, _width if data[0] == 2 else _row, _cut))(rng, data)
     return bytes(data)
 
 
@@ -121,7 +193,9 @@ def _field(rng, data):
 def _row(rng, data):
     """A number of a link row, a frequency, a rule row or a pair row, changed or exchanged with the next one."""
     k, n, q, t = (min(count, limit) for count, limit in zip(struct.unpack_from("<4I", data, 4), (64, 512, 2016, 8192)))
-    starts = [(40, 4, k, "HH"), (40 + 4 * k, 4, n, "I"), (40 + 4 * k + 4 * n, 12, q, "HHHHI"), (40 + 4 * k + 4 * n + 12 * q, 4, t, "HH")]
+    links = (40, 8, k, "HHI") if data[0] == 2 else (40, 4, k, "HH")
+    end = 40 + links[1] * k
+    starts = [links, (end, 4, n, "I"), (end + 4 * n, 12, q, "HHHHI"), (end + 4 * n + 12 * q, 4, t, "HH")]
     start, size, count, layout = rng.choice([section for section in starts if section[2]] or [(40, 4, 1, "HH")])
     at = start + size * rng.randrange(count)
     if at + 2 * size <= len(data) and rng.random() < 0.25:
@@ -134,6 +208,13 @@ def _row(rng, data):
     wide = layout[field] == "I"
     row[field] = rng.choice((rng.choice(WIDE_EDGES if wide else EDGES), (row[field] + rng.choice((-1, 1, 2))) % (2**32 if wide else 2**16)))
     struct.pack_into("<" + layout, data, at, *row)
+
+
+def _width(rng, data):
+    """A width of form 2 in or out of range."""
+    at = 44 + 8 * rng.randrange(min(data[4], 64) or 1)
+    if at + 4 <= len(data):
+        struct.pack_into("<I", data, at, rng.choice((0, 1, 20_000, 20_001, 20_001, 2**16, 2**32 - 1)))
 
 
 def _cut(rng, data):
@@ -224,7 +305,10 @@ def _allows(sheet, rule, other, khz):
         return other != khz
     if rule.kind == LISTED:
         return (sheet.links[rule.a].index(other), sheet.links[rule.b].index(khz)) in rule.pairs if other in sheet.links[rule.a] else False
-    return abs(other - khz) >= rule.value if rule.kind == SPACING else abs(other - khz) == rule.value
+    if rule.kind == EXACT:
+        return abs(other - khz) == rule.value
+    widths = sheet.widths[rule.a] + sheet.widths[rule.b] if sheet.widths else 0
+    return 2 * abs(other - khz) >= 2 * rule.value + widths
 
 
 def limit_calls():
@@ -262,6 +346,10 @@ def telling_sheets():
         # More than k greedy classes: the layers are used.
         Sheet([[1, 2, 3]] * 3, listed([(0, 1, [(1, 0), (1, 2), (2, 1), (2, 2)]), (0, 2, [(0, 0), (0, 1), (1, 1), (2, 0), (2, 1), (2, 2)]),
                                        (1, 2, [(p, q) for p in range(3) for q in range(3)])])),
+        # The first sheet with widths: its spacing just met, missed by half a kHz, met by one pair, by two, by none.
+        *(Sheet([[500_000, 500_400], [500_000, 500_300]], [Rule(0, 1, SPACING, value)], [30, width])
+          for value, width in ((360, 50), (360, 51), (300, 50), (260, 50), (400, 50))),
+        Sheet([[1, 4, 7], [2, 5, 8], [3, 6, 9]], [Rule(0, 1, SPACING, 1), Rule(0, 2, SPACING, 2), Rule(1, 2, EXACT, 1)], [1, 2, 3]),
         # The pre-filter empties a greedy class, and no layer.
         Sheet([[1, 2, 4], [2, 5], [2]], listed([(0, 1, [(0, 0), (1, 0), (1, 1)])]) + [Rule(0, 2, SPACING, 1), Rule(1, 2, SPACING, 1)]),
     ]

@@ -66,23 +66,52 @@ def _(_):
 
 @test("tools/sheet plan prints the program's plan with names")
 def _(_):
-    table = run([SHEET, "plan", EXAMPLES / "theatre.txt"]).stdout.decode()
-    job = text.parse((EXAMPLES / "theatre.txt").read_text(encoding="utf-8"))
-    plan = printed_by_program((EXAMPLES / "theatre.sheet").read_bytes()).splitlines()[1:]
-    for link, line in enumerate(plan):
-        khz = int(line.split()[1])
-        row = rf"^ *{link}  {re.escape(job.names[link])} +{khz // 1000}\.{khz % 1000:03}  \d+ kHz to "
-        need(re.search(row, table, re.MULTILINE), f"no row for link {link} in the table")
+    for name in ("theatre", "edges"):
+        table = run([SHEET, "plan", EXAMPLES / f"{name}.txt"]).stdout.decode()
+        job = text.parse((EXAMPLES / f"{name}.txt").read_text(encoding="utf-8"))
+        plan = printed_by_program((EXAMPLES / f"{name}.sheet").read_bytes()).splitlines()[1:]
+        for link, line in enumerate(plan):
+            khz = int(line.split()[1])
+            wide = rf" +{job.sheet.widths[link]}" if job.sheet.widths else ""
+            row = rf"^ *{link}  {re.escape(job.names[link])} +{khz // 1000}\.{khz % 1000:03}{wide}  \d+(\.5)? kHz to "
+            need(re.search(row, table, re.MULTILINE), f"{name}: no row for link {link} in the table")
 
 
-@test("docs/TEXT.md and examples/theatre.svg show the theatre as it is")
+@test("docs/TEXT.md and the pictures show the theatre and the club stage as they are")
 def _(_):
     page = (ROOT / "docs" / "TEXT.md").read_text(encoding="utf-8")
-    theatre = EXAMPLES / "theatre.txt"
-    need(theatre.read_text(encoding="utf-8") in page, "docs/TEXT.md does not hold examples/theatre.txt")
-    need(run([SHEET, "plan", theatre]).stdout.decode() in page, "docs/TEXT.md does not hold its plan")
-    drawn = run([SHEET, "picture", theatre, "-o", "-"]).stdout
-    need(drawn == (EXAMPLES / "theatre.svg").read_bytes(), "tools/sheet picture draws another examples/theatre.svg")
+    for name in ("theatre", "edges"):
+        job = EXAMPLES / f"{name}.txt"
+        need(job.read_text(encoding="utf-8") in page, f"docs/TEXT.md does not hold examples/{name}.txt")
+        need(run([SHEET, "plan", job]).stdout.decode() in page, f"docs/TEXT.md does not hold the plan of {name}")
+        drawn = run([SHEET, "picture", job, "-o", "-"]).stdout
+        need(drawn == (EXAMPLES / f"{name}.svg").read_bytes(), f"tools/sheet picture draws another examples/{name}.svg")
+
+
+@test("docs/FORMAT.md shows its two sheets byte by byte")
+def _(_):
+    page = (ROOT / "docs" / "FORMAT.md").read_text(encoding="utf-8")
+    lists = [[500_000, 500_400], [500_000, 500_300]]
+    wanted = [binary.Sheet(lists, [binary.Rule(0, 1, binary.SPACING, 400)]), binary.Sheet(lists, [binary.Rule(0, 1, binary.SPACING, 360)], [30, 50])]
+    shown = page.split("| offset | bytes (hexadecimal) | meaning |")[1:]
+    need(len(shown) == len(wanted), f"{len(shown)} tables of bytes")
+    for table, sheet in zip(shown, wanted):
+        data = b""
+        for offset, digits in re.findall(r"^\| (\d+) \| ([0-9a-f ]+) \|", table, re.MULTILINE):
+            need(int(offset) == len(data), f"offset {offset} after {len(data)} bytes")
+            data += bytes.fromhex(digits)
+        need(data == binary.encode(sheet), f"form {sheet.form()}: other bytes")
+        need(printed_by_program(data) == "found 3\n0 500400\n1 500000\n", f"form {sheet.form()}: {printed_by_program(data)!r}")
+
+
+@test("the club stage needs its widths: the plan between centres breaks the spacing between edges")
+def _(_):
+    whole = (EXAMPLES / "edges.txt").read_text(encoding="utf-8")
+    job, centres = text.parse(whole), text.parse(re.sub(r"(?m)^width .*\n", "", whole))
+    need(binary.encode(centres.sheet)[:4] == b"\x01\0\0\0", "without width lines the form is not 1")
+    plans = [[int(line.split()[1]) for line in printed_by_program(binary.encode(sheet)).splitlines()[1:]] for sheet in (job.sheet, centres.sheet)]
+    need([planner.keeps_rules(job.sheet, plan) for plan in plans] == [True, False], f"{plans}")
+    need(planner.keeps_rules(centres.sheet, plans[1]), f"{plans[1]}")
 
 
 @test("every command has --help")
@@ -268,7 +297,7 @@ def _(_):
 
 @test("make and show are inverse on random sheets")
 def _(args):
-    rng = random.Random(args.seed + 2)
+    rng, forms = random.Random(args.seed + 2), Counter()
     for number in range(args.cases):
         sheet = samples.wide_sheet(rng) if number % 40 == 0 else samples.random_sheet(rng, 9, 6)
         data = binary.encode(sheet)
@@ -277,7 +306,61 @@ def _(args):
         shown = show.show(binary.decode(data), "a sheet")
         need(binary.encode(text.parse(shown).sheet) == data, f"make of show differs:\n{shown[:400]}")
         need(show.show(text.parse(shown).sheet, "a sheet") == shown, "show of make differs")
-    return f"{args.cases:,} sheets"
+        need(("\nwidth " in shown) == (data[0] == 2), f"form {data[0]}:\n{shown[:400]}")
+        forms[data[0]] += 1
+    need(forms[1] and forms[2], f"not both forms arose: {forms}")
+    return f"{args.cases:,} sheets, {forms[2]:,} of form 2"
+
+
+WIDTHS_HEAD = "job x\nlink A 500.0\nlink B 500.5\nlink C 501.0\n"
+
+
+@test("width: for links and for all, and show writes the lines back")
+def _(_):
+    for lines, widths, shown in (
+            ("", None, ""), ("width 200 all", [200] * 3, "width 200 all\n"), ("width 200 A B\nwidth 0.4 C", [200, 200, 400], "width 200 all\nwidth 400 link2\n"),
+            ("width 20MHz C\nwidth 1 all", [1, 1, 20_000], "width 1 all\nwidth 20000 link2\n"),
+            ("width 3 A\nwidth 2 B\nwidth 1 C", [3, 2, 1], "width 1 link2\nwidth 2 link1\nwidth 3 link0\n"),
+            ("width 7 all\nwidth 9 B C", [7, 9, 9], "width 9 all\nwidth 7 link0\n"),
+            ("width 7 A B C\nwidth 9 all", [7] * 3, "width 7 all\n")):
+        made = text.parse(WIDTHS_HEAD + lines).sheet
+        need(made.widths == widths, f"{lines}: {made.widths}")
+        data = binary.encode(made)
+        need((data[0], len(data)) == ((1, 64) if widths is None else (2, 76)), f"{lines}: form {data[0]}, {len(data)} bytes")
+        need(reading.refusal(data) == 0 and reading.Sheet(data).widths == (widths or []), f"{lines}: the reading's widths differ")
+        told = show.show(made, "x")
+        need("".join(re.findall(r"(?m)^width .*\n", told)) == shown, f"{lines}: {told}")
+        need(text.parse(told).sheet == made, f"make of show differs: {told}")
+
+
+@test("width: every fault has its line")
+def _(_):
+    faults = {"width": (5, "expected a width after width"), "width 200": (5, "expected the names of links, or all, after width 200, found none"),
+              "width 0 all": (5, "expected a width of 1 to 20,000 kHz, found 0"), "width 20001 A": (5, "expected a width of 1 to 20,000 kHz, found 20001"),
+              "width 20.001 all": (5, "expected a width of 1 to 20,000 kHz, found 20.001"), "width 0.0125 A": (5, "expected a width in whole kHz"),
+              "width A 200": (5, "expected a width such as 0.2 (MHz) or 200 (kHz), found A"), "width 200 A D": (5, "expected the name of a link, found D"),
+              "width 200 A A": (5, "expected different links, found A twice"), "width 200 all A": (5, "expected the name of a link, found all"),
+              "width 200 A B C\nwidth 200 B": (6, "expected one width for B, found a second one beside line 5"),
+              "width 1 all\nwidth 2 all": (6, "expected one line 'width WIDTH all', found a second one beside line 5"),
+              "width 200 A\nwidth 300 C": (3, "expected a width for B, as line 5 gives other links one")}
+    for lines, (line, words) in faults.items():
+        try:
+            text.parse(WIDTHS_HEAD + lines)
+            need(False, f"{lines}: read")
+        except text.TextError as error:
+            need([number for number, _ in error.faults] == [line] and words in error.faults[0][1], f"{lines}: {error}")
+
+
+@test("why: cause 16 with its link and byte, and the fault that comes first")
+def _(_):
+    data = (EXAMPLES / "edges.sheet").read_bytes()
+    for link, width in ((0, 0), (5, 20_001), (8, 2**32 - 1)):
+        said = run([SHEET, "why", "-"], input=samples.changed(data, ("I", 44 + 8 * link, width))).stdout.decode()
+        need(said == f"refused 16: a width out of range\n  where    link {link}, width, byte {44 + 8 * link}\n  there    {width:,} kHz\n"
+             "  allowed  1 to 20,000 kHz\n", said)
+    for name, cause, data in samples.form_sheets():
+        fault = binary.fault_of(data)
+        need((fault.number if fault else 0) == cause, f"{name}: {fault}, wanted {cause}")
 
 
 @test("free lists every pair, differ gives no rule, and show tells them apart")
@@ -324,9 +407,11 @@ def _(args):
         cells = samples.check_cells(rng, sheet)
         wanted = reading.console_check(binary.encode(sheet), struct.pack(f"<{len(cells)}I", *cells)) == reading.YES
         need(planner.keeps_rules(sheet, cells) == wanted, f"{sheet}, {cells}: wanted {wanted}")
-        seen[wanted] += 1
-    need(seen[True] and seen[False], f"{seen}")
-    return f"{seen[True]:,} of {args.cases:,} plans keep the rules"
+        seen[sheet.form(), wanted] += 1
+    need(len(seen) == 4, f"{seen}")
+    for allowed, sheet in samples.edge_sheets():
+        need(planner.keeps_rules(sheet, [listed[0] for listed in sheet.links]) == allowed, f"{sheet}: wanted {allowed}")
+    return f"{seen[1, True] + seen[2, True]:,} of {args.cases:,} plans keep the rules"
 
 
 @test("tables and pictures: links without a rule count, free links do not")
@@ -344,6 +429,73 @@ def _(_):
     need(row == "   1  B       500.000  400 kHz to C (no rule: another frequency); shares its carrier with A", row)
 
 
+@test("tables of form 2: from edge to edge, in half kHz, with overlaps; an exact distance is between centres")
+def _(_):
+    for lines, rows, pair in (
+            ("width 200 all\napart 200 all", ["200  200 kHz to B (at least 200 kHz)", "200  200 kHz to A (at least 200 kHz)"],
+             "A and B, 200 kHz from edge to edge (at least 200 kHz)"),
+            ("width 200 B\nwidth 25 A\napart 200 all", [" 25  287.5 kHz to B (at least 200 kHz)", "200  287.5 kHz to A (at least 200 kHz)"],
+             "A and B, 287.5 kHz from edge to edge (at least 200 kHz)"),
+            ("width 200 all\nexactly 400 A B", ["200  200 kHz to B (just 400 kHz between centres)", "200  200 kHz to A (just 400 kHz between centres)"],
+             "A and B, 200 kHz from edge to edge (just 400 kHz between centres)"),
+            ("width 401 A\nwidth 400 B", ["401  overlaps B, 400 kHz between centres (no rule: another frequency)",
+                                          "400  overlaps A, 400 kHz between centres (no rule: another frequency)"],
+             "A and B overlap, 400 kHz between centres (no rule: another frequency)"),
+            ("width 400 A B", ["400  0 kHz to B (no rule: another frequency)", "400  0 kHz to A (no rule: another frequency)"],
+             "A and B, 0 kHz from edge to edge (no rule: another frequency)"),
+            ("width 800 A B\nexactly 400 A B", ["800  overlaps B, 400 kHz between centres (just 400 kHz between centres)",
+                                                "800  overlaps A, 400 kHz between centres (just 400 kHz between centres)"],
+             "A and B overlap, 400 kHz between centres (just 400 kHz between centres)"),
+            ("width 800 A B\nfree A B", ["800  no link to keep apart from; overlaps B", "800  no link to keep apart from; overlaps A"], None)):
+        job = text.parse("job x\nlink A 500.0\nlink B 500.4\n" + lines)
+        answer = Answer("found", 3, [500_000, 500_400])
+        told = planner.table(job.sheet, job.names, answer).splitlines()
+        need(told[0] == "link  name        MHz  kHz wide  tightest spacing, edge to edge", told[0])
+        need(told[1:3] == [f"   0  A       500.000       {rows[0]}", f"   1  B       500.400       {rows[1]}"], f"{lines}: {told}")
+        need(told[3:] == (["", f"tightest pair: {pair}"] if pair else []), f"{lines}: {told}")
+        labels_apart(picture.svg(job, answer))
+        need(pair is None or f"tightest pair: {pair}" in picture.svg(job, answer), f"{lines}: the tightest pair of the picture")
+    job = text.parse("job x\nlink A 500.0\nlink B 500.1\nlink C 500.3\nlink D 500.1\nwidth 500 all\nfree B D")
+    row = planner.table(job.sheet, job.names, Answer("found", 5, [500_000, 500_100, 500_300, 500_100])).splitlines()[2]
+    need(row == "   1  B       500.100       500  overlaps A, 100 kHz between centres (no rule: another frequency); "
+         "shares its carrier with D; overlaps C", row)
+
+
+@test("pictures of form 2: every carrier as wide as it is")
+def _(args):
+    rng = random.Random(args.seed + 9)
+    for _ in range(max(args.cases // 100, 20)):
+        sheet = samples.wide_sheet(rng)
+        sheet.widths = [rng.choice((1, 25, 200, 6000, 20_000)) for _ in sheet.links]
+        names = [f"link{link}" for link in range(len(sheet.links))]
+        plan = [rng.choice(listed) for listed in sheet.links]
+        drawn = picture.svg(text.Job("job", names, sheet, []), Answer("found", 1, plan))
+        bars = drawn_bars(drawn)
+        need(sorted(bars) == sorted([f"link {link}" for link in range(len(plan))] + names), "not every carrier is drawn, above and in its lane")
+        widest = sheet.widths.index(max(sheet.widths))
+        scale = bars[f"link {widest}"][1] / sheet.widths[widest]
+        for link, khz in enumerate(sheet.widths):
+            for x, wide, told in (bars[f"link {link}"], bars[names[link]]):
+                need(told.endswith(f" MHz, {khz:,} kHz wide"), told)
+                need(abs(wide - scale * khz) < 0.2 and x >= 0 and x + wide <= 1200, f"link {link}, {khz} kHz: {x}, {wide}")
+    job = text.parse("job x\nlink A 500.0\nlink B 502.0\nwidth 1000 A\nwidth 25 B")
+    (low, wide, _), (high, narrow, _) = (drawn_bars(picture.svg(job, Answer("found", 3, [500_000, 502_000])))[name] for name in "AB")
+    apart = high + narrow / 2 - low - wide / 2
+    need(abs(2 * wide - apart) < 0.5 and abs(80 * narrow - apart) < 5, f"{wide} and {narrow} wide, {apart} between centres")
+    theatre = text.parse((EXAMPLES / "theatre.txt").read_text(encoding="utf-8"))
+    drawn = picture.svg(theatre, Answer("found", 1, [listed[0] for listed in theatre.sheet.links]))
+    need(drawn.count("<rect") == 1 and "as wide" not in drawn, "a picture of form 1 has bars")
+
+
+def drawn_bars(svg):
+    """The bars of a picture by what their tooltips begin with, `link N` above the axis and the name in a lane: (x, width, tooltip)."""
+    found = {}
+    for rect in xml.dom.minidom.parseString(svg).getElementsByTagName("rect")[1:]:
+        told = rect.firstChild.firstChild.data
+        found[re.split("[,:]", told)[0]] = float(rect.getAttribute("x")), float(rect.getAttribute("width")), told
+    return found
+
+
 @test("why gives the planner's number for damaged sheets")
 def _(args):
     rng = random.Random(args.seed + 3)
@@ -359,25 +511,25 @@ def _(args):
         if fault:
             need(fault.place and fault.there and fault.allowed and 0 <= fault.offset <= max(len(data), 40), f"{fault}")
         seen[returned] += 1
-    for data in inputs[:60]:
+    for data in inputs[:60] + inputs[-40:]:
         said, told = run([SHEET, "why", "-"], input=data).stdout.decode(), printed_by_program(data)
         need(told.startswith("refused") == said.startswith("refused"), f"why says {said[:30]!r}, the program {told[:30]!r}")
         need(not told.startswith("refused") or said.startswith(told.strip() + ":"), f"why says {said[:30]!r}, the program {told[:30]!r}")
-    need(all(seen[number] for number in range(1, 9)), f"not every number arose: {dict(seen)}")
-    return f"{len(inputs):,} sheets; " + ", ".join(f"{number}: {seen[number]}" for number in range(1, 9))
+    need(all(seen[number] for number in binary.CAUSES), f"not every number arose: {dict(seen)}")
+    return f"{len(inputs):,} sheets; " + ", ".join(f"{number}: {seen[number]}" for number in binary.CAUSES)
 
 
 @test("damaged texts are read or get a line number")
 def _(args):
     rng = random.Random(args.seed + 4)
-    whole = (EXAMPLES / "theatre.txt").read_text(encoding="utf-8")
+    whole = [(EXAMPLES / name).read_text(encoding="utf-8") for name in ("theatre.txt", "edges.txt")]
     read = 0
-    for _ in range(args.cases):
-        lines = whole.splitlines()
+    for number in range(args.cases):
+        lines = whole[number % 2].splitlines()
         for _ in range(rng.choice((1, 1, 3))):
             at = rng.randrange(len(lines))
             words = lines[at].split(" ") or [""]
-            words[rng.randrange(len(words))] = rng.choice(("", '"', "#", "all", "link", "free", "differ", "0", "1e9", "500,1", "500.4MHz", "kHz",
+            words[rng.randrange(len(words))] = rng.choice(("", '"', "#", "all", "link", "width", "free", "differ", "0", "1e9", "500,1", "500.4MHz", "kHz",
                                                            "Romeo", "-1", "9" * 30, "ä/ö", "1/2"))
             lines[at] = " ".join(words)
         try:

@@ -29,22 +29,45 @@ class Answer:
 
 @dataclass
 class Spacing:
-    """Two links, how far apart their frequencies are, and their rule, None where they have none."""
+    """Two links, how far apart their frequencies are, their rule, None where they have none, and the sum of their widths, None in form 1."""
     links: tuple
     apart: int
     rule: object
+    widths: int = None
+
+    def gap(self):
+        """Twice the kHz from edge to edge, below 0 where the two overlap; in form 1 twice those between the frequencies."""
+        return 2 * self.apart - (self.widths or 0)
 
     def spare(self):
+        """Half kHz beyond what is asked."""
         if self.rule is None:
-            return self.apart - 1
-        return self.apart - self.rule.value if self.rule.kind == SPACING else 0
+            return 2 * self.apart - 2
+        return self.gap() - 2 * self.rule.value if self.rule.kind == SPACING else 0
 
     def asked(self):
         if self.rule is None:
             return "no rule: another frequency"
         if self.rule.kind == SPACING:
             return f"at least {self.rule.value} kHz"
-        return f"just {self.rule.value} kHz" if self.rule.kind == EXACT else "a listed pair"
+        centres = " between centres" if self.widths else ""
+        return f"just {self.rule.value} kHz{centres}" if self.rule.kind == EXACT else "a listed pair"
+
+    def khz(self):
+        """From edge to edge in kHz, or between the frequencies in form 1."""
+        return f"{self.gap() // 2}{'.5' * (self.gap() % 2)} kHz"
+
+    def beside(self, other):
+        """The spacing to the other link, in words."""
+        near = f"overlaps {other}, {self.apart} kHz between centres" if self.gap() < 0 else f"{self.khz()} to {other}"
+        return f"{near} ({self.asked()})"
+
+    def told(self, first, second):
+        """The spacing of the two links, in words."""
+        if self.gap() < 0:
+            return f"{first} and {second} overlap, {self.apart} kHz between centres ({self.asked()})"
+        how = "from edge to edge" if self.widths else "apart"
+        return f"{first} and {second}, {self.khz()} {how} ({self.asked()})"
 
 
 def ask(data):
@@ -101,7 +124,8 @@ def plan(sheet):
 def spacings(sheet, khz):
     """The spacing of every two links of a plan."""
     rules = {(rule.a, rule.b): rule for rule in sheet.rules}
-    return [Spacing((a, b), abs(khz[a] - khz[b]), rules.get((a, b))) for a, b in itertools.combinations(range(len(khz)), 2)]
+    return [Spacing((a, b), abs(khz[a] - khz[b]), rules.get((a, b)), sheet.widths and sheet.widths[a] + sheet.widths[b])
+            for a, b in itertools.combinations(range(len(khz)), 2)]
 
 
 def keeps_rules(sheet, khz):
@@ -125,7 +149,7 @@ def keeps_rules(sheet, khz):
 def tightest(sheet, khz, link=None):
     """The least spacing of two links (of this link, where one is given) that are not free; None without such links."""
     found = [near for near in spacings(sheet, khz) if link in (None, *near.links) and not (near.rule and sheet.is_free(near.rule))]
-    return min(found, key=lambda spacing: (spacing.apart, spacing.spare()), default=None)
+    return min(found, key=lambda spacing: (spacing.gap(), spacing.spare()), default=None)
 
 
 def said(answer):
@@ -150,21 +174,26 @@ def width(text):
 
 
 def table(sheet, names, answer):
-    """The plan line by line: link number, name, MHz, the tightest spacing to another link, and who shares its carrier."""
+    """The plan line by line: link number, name, MHz, the width in form 2, the tightest spacing to another link, and who shares its carrier."""
     wide = max([width(name) for name in names] + [4])
-    rows = [f"link  name{' ' * (wide - 4)}        MHz  tightest spacing"]
+    edges = sheet.form() == 2
+    heads = "kHz wide  tightest spacing, edge to edge" if edges else "tightest spacing"
+    rows = [f"link  name{' ' * (wide - 4)}        MHz  {heads}"]
     for link, (name, khz) in enumerate(zip(names, answer.khz)):
-        near = tightest(sheet, answer.khz, link)
-        if near is None:
-            told = "no link to keep apart from"
-        else:
-            other, = set(near.links) - {link}
-            told = f"{near.apart} kHz to {names[other]} ({near.asked()})"
-        shared = [names[other] for other, taken in enumerate(answer.khz) if taken == khz and other != link]
-        told += f"; shares its carrier with {', '.join(shared)}" if shared else ""
-        rows.append(f"{link:4}  {name}{' ' * (wide - width(name))}  {mhz(khz):>9}  {told}")
+        column = f"{sheet.widths[link]:8}  " if edges else ""
+        rows.append(f"{link:4}  {name}{' ' * (wide - width(name))}  {mhz(khz):>9}  {column}{_beside(sheet, names, answer.khz, link)}")
     worst = tightest(sheet, answer.khz)
     if worst:
-        first, second = (names[link] for link in worst.links)
-        rows += ["", f"tightest pair: {first} and {second}, {worst.apart} kHz apart ({worst.asked()})"]
+        rows += ["", f"tightest pair: {worst.told(*(names[link] for link in worst.links))}"]
     return "\n".join(rows)
+
+
+def _beside(sheet, names, khz, link):
+    """The tightest spacing of a link, who shares its carrier, and whom else it overlaps."""
+    near = tightest(sheet, khz, link)
+    told = near.beside(names[sum(near.links) - link]) if near else "no link to keep apart from"
+    others = [(names[sum(spacing.links) - link], spacing) for spacing in spacings(sheet, khz) if link in spacing.links]
+    shared = [name for name, spacing in others if spacing.apart == 0]
+    overlapped = [name for name, spacing in others if spacing.gap() < 0 < spacing.apart and spacing != near]
+    told += f"; shares its carrier with {', '.join(shared)}" if shared else ""
+    return told + (f"; overlaps {', '.join(overlapped)}" if overlapped else "")

@@ -6,11 +6,11 @@ CHARACTER = 6.7
 
 
 class Axis:
-    """Places frequencies between two edges; one scale for every part of the band."""
+    """Places the frequencies of these stretches, each (low, high), between two edges; one scale for every part of the band."""
 
-    def __init__(self, khz, left, right):
+    def __init__(self, stretches, left, right):
         self.left, self.right = left, right
-        parts = _parts(sorted(set(khz)))
+        parts = _parts(sorted(stretches))
         covered = sum(high - low for low, high in parts)
         pad = max(0.02 * covered, 100 if parts[-1][1] > 1000 else 1)
         self.parts = [(low - pad, high + pad) for low, high in parts]
@@ -52,16 +52,20 @@ class Axis:
         return found
 
 
-def _parts(khz):
-    """The band as (low, high) parts: split where an empty stretch is wide beside all that is left."""
-    gaps = sorted(((b - a, a, b) for a, b in zip(khz, khz[1:])), reverse=True)
-    left, cuts = khz[-1] - khz[0], []
-    for gap, low, high in gaps[:6]:
+def _parts(stretches):
+    """The band as (low, high) parts: split where a gap between stretches is wide beside all that is left."""
+    gaps, (low, high) = [], stretches[0]
+    for start, end in stretches:
+        if start > high:
+            gaps.append((start - high, high, start))
+        high = max(high, end)
+    left, cuts = high - low, []
+    for gap, *cut in sorted(gaps, reverse=True)[:6]:
         if gap < 3000 or gap < 0.3 * (left - gap):
             break
-        cuts.append((low, high))
+        cuts.append(cut)
         left -= gap
-    ends = [khz[0]] + [edge for cut in sorted(cuts) for edge in cut] + [khz[-1]]
+    ends = [low] + [edge for cut in sorted(cuts) for edge in cut] + [high]
     return list(zip(ends[::2], ends[1::2]))
 
 

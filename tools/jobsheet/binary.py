@@ -3,17 +3,19 @@
 import struct
 from dataclasses import dataclass, field
 
-MOST_LINKS, MOST_FREQUENCIES, MOST_RULES, MOST_PAIRS, MOST_KHZ = 64, 512, 2016, 8192, 9_999_999
+MOST_LINKS, MOST_FREQUENCIES, MOST_RULES, MOST_PAIRS, MOST_KHZ, MOST_WIDTH = 64, 512, 2016, 8192, 9_999_999, 20_000
 HEADER = 40
+ROW_BYTES = {1: 4, 2: 8}  # of a link row, by the form
 
 SPACING, EXACT, LISTED = 1, 2, 3
 
-CAUSES = {
-    1: "under 40 bytes, or form not 1",
+CAUSES = {  # in the order tested
+    1: "under 40 bytes, or a form other than 1 or 2",
     2: "no link, or more than 64",
     3: "frequencies, rules or pairs beyond their limits",
     4: "an offset or the length is wrong",
     5: "a link row, or the sum of the counts",
+    16: "a width out of range",
     6: "a frequency out of range, or not rising",
     7: "a rule row, or the sum of the pairs",
     8: "a pair row",
@@ -32,9 +34,14 @@ class Rule:
 
 @dataclass
 class Sheet:
-    """One hall's job: for each link its frequencies in kHz, rising; rules rising by (a, b). Links without a rule have to differ."""
+    """One hall's job: for each link its frequencies in kHz, rising; rules rising by (a, b). Links without a rule have to differ.
+    Widths, in kHz by link, make it a sheet of form 2."""
     links: list
     rules: list
+    widths: list = None
+
+    def form(self):
+        return 1 if self.widths is None else 2
 
     def frequencies(self):
         return sum(len(listed) for listed in self.links)
@@ -50,7 +57,13 @@ class Sheet:
         """Its size in words."""
         sizes = ((len(self.links), "link", "links"), (self.frequencies(), "frequency", "frequencies"),
                  (len(self.rules), "rule", "rules"), (self.pairs(), "pair", "pairs"))
-        return ", ".join(f"{count} {one if count == 1 else more}" for count, one, more in sizes)
+        return ", ".join(f"{count} {one if count == 1 else more}" for count, one, more in sizes) + self._counted_widths()
+
+    def _counted_widths(self):
+        if self.widths is None:
+            return ""
+        least, most = min(self.widths), max(self.widths)
+        return f", {least:,} kHz wide" if least == most else f", {least:,} to {most:,} kHz wide"
 
 
 @dataclass
@@ -73,14 +86,16 @@ class Refused(Exception):
 
 def encode(sheet):
     """The bytes of a sheet."""
-    k, n, q, t = len(sheet.links), sheet.frequencies(), len(sheet.rules), sheet.pairs()
+    form, k, n, q, t = sheet.form(), len(sheet.links), sheet.frequencies(), len(sheet.rules), sheet.pairs()
     offsets = [HEADER]
-    for size in (4 * k, 4 * n, 12 * q, 4 * t):
+    for size in (ROW_BYTES[form] * k, 4 * n, 12 * q, 4 * t):
         offsets.append(offsets[-1] + size)
-    parts = [struct.pack("<10I", 1, k, n, q, t, *offsets)]
+    parts = [struct.pack("<10I", form, k, n, q, t, *offsets)]
     first = 0
-    for listed in sheet.links:
+    for link, listed in enumerate(sheet.links):
         parts.append(struct.pack("<HH", first, len(listed)))
+        if form == 2:
+            parts.append(struct.pack("<I", sheet.widths[link]))
         first += len(listed)
     for listed in sheet.links:
         parts.append(struct.pack(f"<{len(listed)}I", *listed))
@@ -97,15 +112,16 @@ def encode(sheet):
 
 def decode(data):
     """The sheet that the bytes hold; raises Refused with the first fault in the order of the causes."""
-    k, n, q, t = _header(data)
-    at_frequencies = HEADER + 4 * k
+    form, k, n, q, t = _header(data)
+    at_frequencies = HEADER + ROW_BYTES[form] * k
     at_rules = at_frequencies + 4 * n
     at_pairs = at_rules + 12 * q
-    counts = _link_rows(data, k, n)
+    counts = _link_rows(data, ROW_BYTES[form], k, n)
+    widths = _widths(data, k) if form == 2 else None
     links = _frequencies(data, counts, at_frequencies)
     rules, starts = _rule_rows(data, k, q, t, at_rules)
     _pair_rows(data, links, rules, starts, at_pairs)
-    return Sheet(links, rules)
+    return Sheet(links, rules, widths)
 
 
 def fault_of(data):
@@ -125,8 +141,8 @@ def _header(data):
     if len(data) < HEADER:
         _refuse(1, "the file as a whole", 0, f"{len(data)} bytes", "at least the 40 bytes of the header")
     form, k, n, q, t, *offsets = struct.unpack_from("<10I", data)
-    if form != 1:
-        _refuse(1, "header, form", 0, f"{form:,}", "1")
+    if form not in ROW_BYTES:
+        _refuse(1, "header, form", 0, f"{form:,}", "1 or 2")
     if not 1 <= k <= MOST_LINKS:
         _refuse(2, "header, number of links", 4, f"{k:,}", f"1 to {MOST_LINKS}")
     if not 1 <= n <= MOST_FREQUENCIES:
@@ -136,24 +152,24 @@ def _header(data):
     if t > MOST_PAIRS:
         _refuse(3, "header, number of pairs", 16, f"{t:,}", f"0 to {MOST_PAIRS:,}")
     wanted = HEADER
-    sections = (("offset of the link section", 0), ("offset of the frequency section", 4 * k),
+    sections = (("offset of the link section", 0), ("offset of the frequency section", ROW_BYTES[form] * k),
                 ("offset of the rule section", 4 * n), ("offset of the pair section", 12 * q),
                 ("length of the sheet", 4 * t))
     for index, (name, before) in enumerate(sections):
         wanted += before
         if offsets[index] != wanted:
             _refuse(4, f"header, {name}", 20 + 4 * index, f"{offsets[index]:,}",
-                    f"{wanted:,}, by {k} links, {n} frequencies, {q} rules and {t} pairs")
+                    f"{wanted:,}, by form {form} ({ROW_BYTES[form]} bytes a link row), {k} links, {n} frequencies, {q} rules and {t} pairs")
     if len(data) != wanted:
         _refuse(4, "the file as a whole", min(len(data), wanted), f"{len(data):,} bytes",
                 f"{wanted:,} bytes, as the length at byte 36 says")
-    return k, n, q, t
+    return form, k, n, q, t
 
 
-def _link_rows(data, k, n):
+def _link_rows(data, size, k, n):
     counts, total = [], 0
     for link in range(k):
-        row = HEADER + 4 * link
+        row = HEADER + size * link
         first, count = struct.unpack_from("<HH", data, row)
         if first != total:
             _refuse(5, f"link {link}, first frequency", row, f"{first:,}",
@@ -163,9 +179,20 @@ def _link_rows(data, k, n):
         counts.append(count)
         total += count
     if total != n:
-        _refuse(5, f"link {k - 1}, count (the last link row)", HEADER + 4 * k - 2, f"the counts sum to {total:,}",
+        _refuse(5, f"link {k - 1}, count (the last link row)", HEADER + size * (k - 1) + 2, f"the counts sum to {total:,}",
                 f"{n}, the number of frequencies in the header (byte 8)")
     return counts
+
+
+def _widths(data, k):
+    widths = []
+    for link in range(k):
+        offset = HEADER + ROW_BYTES[2] * link + 4
+        width, = struct.unpack_from("<I", data, offset)
+        if not 1 <= width <= MOST_WIDTH:
+            _refuse(16, f"link {link}, width", offset, f"{width:,} kHz", f"1 to {MOST_WIDTH:,} kHz")
+        widths.append(width)
+    return widths
 
 
 def _frequencies(data, counts, at):

@@ -1,4 +1,4 @@
-"""The band as an SVG: carriers on a frequency axis, and below them a lane per link with its candidate frequencies."""
+"""The band as an SVG: carriers on a frequency axis, in form 2 as wide as they are, and below them a lane per link with its candidate frequencies."""
 
 from xml.sax.saxutils import escape
 
@@ -30,6 +30,12 @@ text { font-family: 'DejaVu Sans Mono', Menlo, Consolas, monospace; font-size: 1
 .worst-text { fill: #c0281c }
 """
 
+# More of it in form 2.
+WIDTH_STYLE = """.centre { stroke-width: 1 }
+.band { fill: #1f4e79; fill-opacity: 0.5 }
+.worst-band { fill: #c0281c; fill-opacity: 0.5 }
+"""
+
 
 def svg(job, answer):
     """The picture of a job and the planner's answer; without a plan it shows the candidates alone."""
@@ -45,8 +51,14 @@ class _Picture:
         self.worst = worst
         self.worst_links = worst.links if worst else ()
         left = 24 + CHARACTER * max(10, 4 + max(width(name) for name in self.names))
-        self.axis = Axis([khz for listed in self.sheet.links for khz in listed], left, WIDE - RIGHT)
+        self.edges = self.sheet.form() == 2
+        self.axis = Axis([self._stretch(link, khz) for link, listed in enumerate(self.sheet.links) for khz in listed], left, WIDE - RIGHT)
         self.shapes = []
+
+    def _stretch(self, link, khz):
+        """The edges in kHz of a link's carrier on this frequency."""
+        half = self.sheet.widths[link] / 2 if self.edges else 0
+        return khz - half, khz + half
 
     def text(self):
         y = self._heading(30)
@@ -58,7 +70,7 @@ class _Picture:
         height = self._lanes(y)
         return "\n".join([
             f'<svg xmlns="http://www.w3.org/2000/svg" width="{WIDE}" height="{height:.0f}" viewBox="0 0 {WIDE} {height:.0f}">',
-            f"<title>{escape(self.job.name)}</title>", f"<style>{STYLE}</style>",
+            f"<title>{escape(self.job.name)}</title>", f"<style>{STYLE}{WIDTH_STYLE if self.edges else ''}</style>",
             f'<rect width="{WIDE}" height="{height:.0f}" fill="white"/>', *self.shapes, "</svg>", ""])
 
     def _write(self, x, y, words, kind="", anchor="start", more=""):
@@ -69,14 +81,20 @@ class _Picture:
         inner = f"<title>{escape(told)}</title>" if told else ""
         self.shapes.append(f'<polyline points="{joined}" class="{kind}">{inner}</polyline>')
 
+    def _band(self, link, y, high, told):
+        """A link's carrier of the plan as wide as it is."""
+        left, right = map(self.axis.x, self._stretch(link, self.plan[link]))
+        kind = "worst-band" if link in self.worst_links else "band"
+        self.shapes.append(f'<rect x="{left:.1f}" y="{y:.1f}" width="{right - left:.1f}" height="{high}" class="{kind}">'
+                           f"<title>{escape(told)}, {self.sheet.widths[link]:,} kHz wide</title></rect>")
+
     def _heading(self, y):
         most = int((WIDE - 60) / CHARACTER)
         self._write(24, y, _cut(self.job.name, most * 11 // 17), "title")
         self._write(24, y + 21, _cut(f"{self.sheet.counted()}: {said(self.answer)}", most))
         if self.worst:
-            a, b = (self.job.names[link] for link in self.worst_links)
-            told = f"tightest pair: {a} and {b}, {self.worst.apart} kHz apart ({self.worst.asked()})"
-            self._write(24, y + 39, _cut(told, most), "worst-text")
+            told = self.worst.told(*(self.job.names[link] for link in self.worst_links))
+            self._write(24, y + 39, _cut(f"tightest pair: {told}", most), "worst-text")
         return y + 56
 
     def _labels(self, y):
@@ -92,8 +110,11 @@ class _Picture:
             self._write(0, 0, words[link], "worst-text" if worst else "",
                         more=f' transform="translate({place + 4:.1f} {bottom:.1f}) rotate(-90)"')
             self._line([(place, bottom + 4), (x, bottom + LEADER)], "worst-leader" if worst else "leader")
-            self._line([(x, bottom + LEADER), (x, bottom + LEADER + STEM)], "worst" if worst else "carrier",
-                       f"link {link}, {self.job.names[link]}, {mhz(self.plan[link])} MHz")
+            told = f"link {link}, {self.job.names[link]}, {mhz(self.plan[link])} MHz"
+            if self.edges:
+                self._band(link, bottom + LEADER, STEM, told)
+            kind = ("worst" if worst else "carrier") + " centre" * self.edges
+            self._line([(x, bottom + LEADER), (x, bottom + LEADER + STEM)], kind, told)
         return bottom + LEADER + STEM
 
     def _scale(self, y):
@@ -109,9 +130,10 @@ class _Picture:
         return y + 34
 
     def _bracket(self, y):
-        """The worst pair below the axis, with its distance."""
-        ends = sorted(self.axis.x(self.plan[link]) for link in self.worst_links)
-        words = f"{self.worst.apart} kHz"
+        """The worst pair below the axis, with its distance: that of the edges that face each other."""
+        lows, highs = zip(*(self._stretch(link, self.plan[link]) for link in self.worst_links))
+        ends = sorted(map(self.axis.x, (max(lows), min(highs))))
+        words = "overlap" if self.worst.gap() < 0 else self.worst.khz()
         half = CHARACTER * len(words) / 2
         middle = min(max(sum(ends) / 2, self.axis.left + half), self.axis.right - half)
         self._line([(ends[0], y - 8), (ends[0], y), (ends[1], y), (ends[1], y - 8)], "worst")
@@ -134,12 +156,15 @@ class _Picture:
                 x = self.axis.x(khz)
                 self._line([(x, middle - 4), (x, middle + 4)], "candidate", f"{self.job.names[link]} can tune to {mhz(khz)} MHz")
             if self.plan:
+                if self.edges:
+                    self._band(link, middle - 4, 8, f"{self.job.names[link]}: {mhz(self.plan[link])} MHz")
                 kind = "worst-dot" if worst else "dot"
                 self.shapes.append(f'<circle cx="{self.axis.x(self.plan[link]):.1f}" cy="{middle:.1f}" r="4" class="{kind}">'
                                    f"<title>{escape(self.job.names[link])}: {mhz(self.plan[link])} MHz</title></circle>")
         end = self._scale(bottom + 6)
         told = ["grey strokes: the frequencies that a link can tune to"]
         told += ["dots: the plan"] if self.plan else []
+        told += ["bars: its carriers as wide as they are"] if self.plan and self.edges else []
         told += ["red: the tightest pair"] if self.worst else []
         self._write(self.axis.left, end + 4, "; ".join(told), "quiet")
         return end + 20

@@ -9,10 +9,13 @@ PAIRS_A_LINE = 6
 def show(sheet, job):
     """The text of a sheet under a job's name without quotes: reading it gives the same sheet, byte for byte."""
     names = [f"link{link}" for link in range(len(sheet.links))]
+    units = "distances in kHz" if sheet.form() == 1 else "widths and distances in kHz; 'apart' is from edge to edge"
     lines = [f'job "{job}"',
-             f"# {sheet.counted()}; frequencies in MHz, distances in kHz", ""]
+             f"# {sheet.counted()}; frequencies in MHz, {units}", ""]
     for name, listed in zip(names, sheet.links):
         lines.append(f"link {name} " + " ".join(mhz(khz) for khz in listed))
+    if sheet.widths:
+        lines += ["", *_widths(sheet, names)]
     if sheet.rules:
         lines.append("")
     lines += _spacings(sheet, names)
@@ -24,6 +27,19 @@ def show(sheet, job):
         if rule.kind == LISTED and not sheet.is_free(rule):
             lines += _listed(sheet, rule, names)
     return "\n".join(lines) + "\n"
+
+
+def _widths(sheet, names):
+    """The lines of the widths: the commonest for all links where that names fewer, the others with their links."""
+    named = {}
+    for name, width in zip(names, sheet.widths):
+        named.setdefault(width, []).append(name)
+    common = max(named, key=lambda width: (len(named[width]), -width))
+    if len(named) == 1 or len(named[common]) > 1:
+        del named[common]
+        yield f"width {common} all"
+    for width in sorted(named):
+        yield f"width {width} " + " ".join(named[width])
 
 
 def _listed(sheet, rule, names):

@@ -6,10 +6,10 @@ import re
 from dataclasses import dataclass
 from fractions import Fraction
 
-from .binary import (EXACT, LISTED, MOST_FREQUENCIES, MOST_KHZ, MOST_LINKS, MOST_PAIRS, SPACING, Rule, Sheet)
+from .binary import (EXACT, LISTED, MOST_FREQUENCIES, MOST_KHZ, MOST_LINKS, MOST_PAIRS, MOST_WIDTH, SPACING, Rule, Sheet)
 
 NUMBER = re.compile(r"([0-9]{1,18}(?:\.[0-9]{1,18})?)(khz|mhz)?", re.IGNORECASE)
-WORDS = ("job", "link", "apart", "exactly", "pairs", "free", "differ")
+WORDS = ("job", "link", "width", "apart", "exactly", "pairs", "free", "differ")
 
 
 @dataclass
@@ -61,7 +61,7 @@ def _split(line):
     return words
 
 
-def _khz(word, what="a frequency", such="500.400 (MHz) or 500400 (kHz)"):
+def _khz(word, what="a frequency", such="500.400 (MHz) or 500400 (kHz)", most=MOST_KHZ):
     """The kHz of a number: with a point in MHz, without one in kHz, or in the unit written right after it."""
     found = NUMBER.fullmatch(word)
     if not found:
@@ -69,8 +69,8 @@ def _khz(word, what="a frequency", such="500.400 (MHz) or 500400 (kHz)"):
         raise _Expected(f"expected {what} such as {such}{hint}, found {word}")
     digits, unit = found.group(1), (found.group(2) or "").lower()
     khz = Fraction(digits) * (1000 if unit == "mhz" or (not unit and "." in digits) else 1)
-    if not 1 <= khz <= MOST_KHZ:
-        raise _Expected(f"expected {what} of 1 to {MOST_KHZ:,} kHz, found {word}")
+    if not 1 <= khz <= most:
+        raise _Expected(f"expected {what} of 1 to {most:,} kHz, found {word}")
     if khz.denominator != 1:
         raise _Expected(f"expected {what} in whole kHz, found {word}, which is {float(khz):.10g} kHz")
     return int(khz)
@@ -78,6 +78,10 @@ def _khz(word, what="a frequency", such="500.400 (MHz) or 500400 (kHz)"):
 
 def _distance(word):
     return _khz(word, "a distance", "0.4 (MHz) or 400 (kHz)")
+
+
+def _width(word):
+    return _khz(word, "a width", "0.2 (MHz) or 200 (kHz)", MOST_WIDTH)
 
 
 class _Reader:
@@ -93,6 +97,8 @@ class _Reader:
         self.seen_pairs = set()
         self.pairs_at = []  # (line, word, pairs) of each line that lists pairs
         self.default = None
+        self.widths, self.width_default = {}, None  # each a width with its line; by link, and of `width .. all`
+        self.width_line = None  # the first line that gives a width
 
     def job(self):
         last = 0
@@ -105,7 +111,13 @@ class _Reader:
             self._whole(last)
         if self.faults:
             raise TextError(sorted(self.faults))
-        return Job(self.job_name, self.names, Sheet(self.links, self._all_rules()), self.notes)
+        return Job(self.job_name, self.names, Sheet(self.links, self._all_rules(), self._all_widths()), self.notes)
+
+    def _all_widths(self):
+        """The width of each link of a text without faults; None where no line gives one."""
+        if not self.width_line:
+            return None
+        return [self.widths.get(link, self.width_default)[0] for link in range(len(self.links))]
 
     def _all_rules(self):
         """The rules of a text without faults, rising by their links: those of its lines, of `free`, and of `apart .. all`."""
@@ -185,7 +197,9 @@ class _Reader:
 
     def _rule(self, number, words):
         word = words[0]
-        if word == "apart" and words[2:] == ["all"]:
+        if word == "width":
+            self._give_width(number, words)
+        elif word == "apart" and words[2:] == ["all"]:
             self._default(number, words)
         elif word in ("apart", "exactly"):
             if len(words) < 2:
@@ -209,6 +223,23 @@ class _Reader:
             raise _Expected(f"expected one line 'apart DISTANCE all', found a second one beside line {self.default[1]}")
         self.default = (value, number)
 
+    def _give_width(self, number, words):
+        if len(words) < 2:
+            raise _Expected("expected a width after width, such as 0.2 (MHz) or 200 (kHz)")
+        given, names = (_width(words[1]), number), words[2:]
+        if not names:
+            raise _Expected(f"expected the names of links, or all, after width {words[1]}, found none")
+        self.width_line = self.width_line or number
+        if names == ["all"]:
+            if self.width_default:
+                raise _Expected(f"expected one line 'width WIDTH all', found a second one beside line {self.width_default[1]}")
+            self.width_default = given
+            return
+        for link in self._different(names):
+            _, line = self.widths.setdefault(link, given)
+            if line != number:
+                raise _Expected(f"expected one width for {self.names[link]}, found a second one beside line {line}")
+
     def _groups(self, word, names):
         """Every two of the named links, as (lower, higher)."""
         if len(names) < 2 or (word == "exactly" and len(names) > 2):
@@ -216,11 +247,16 @@ class _Reader:
             either = ", or all," if word == "apart" else ""
             distance = " and the distance" if word in ("apart", "exactly") else ""
             raise _Expected(f"expected {wanted}{either} after {word}{distance}, found {' '.join(names) or 'none'}")
+        links = self._different(names)
+        return [tuple(sorted((a, b))) for i, a in enumerate(links) for b in links[i + 1:]]
+
+    def _different(self, names):
+        """The links of these names, none of them twice."""
         links = [self._known(name) for name in names]
         for index, link in enumerate(links):
             if link in links[:index]:
                 raise _Expected(f"expected different links, found {names[index]} twice")
-        return [tuple(sorted((a, b))) for i, a in enumerate(links) for b in links[i + 1:]]
+        return links
 
     def _known(self, name):
         if name in self.names:
@@ -272,6 +308,15 @@ class _Reader:
             self.faults.append((max(last, 1), "expected at least one line 'link NAME FREQUENCY ..', found the end of the text"))
         if sum(pairs for _, _, pairs in self.pairs_at) > MOST_PAIRS:
             self.faults.append(self._too_many_pairs())
+        without = [link for link in range(len(self.links)) if link not in self.widths]
+        if self.width_line and not self.width_default and without:
+            self.faults.append(self._no_width(without[0]))
+
+    def _no_width(self, link):
+        """The line of a link without a width, where others have one, and what to do."""
+        name = self.names[link]
+        return self.link_lines[link], (f"expected a width for {name}, as line {self.width_line} gives other links one; write width WIDTH {name}, "
+                                       "or width WIDTH all for every link that no other width line names")
 
     def _too_many_pairs(self):
         """The line with which the pairs become too many, how many all lines need, and what to do."""

@@ -1,10 +1,13 @@
 -- Every definition that a case computes with, crate by crate.
 use Rattle.sets.specs.Below
 use Rattle.sets.specs.Sets
+use Rattle.sheet_rows.specs.Form
+use Rattle.sheet_rows.specs.Rows
 use Rattle.sheet.specs.Sheet
 use Rattle.sheet.specs.Refusal
 use Rattle.rules.specs.Pairs
 use Rattle.rules.specs.Layers
+use Rattle.rules.specs.Plans
 use Rattle.cliques.specs.Graph
 use Rattle.cliques.specs.Listing
 use Rattle.filters.specs.Sweep
@@ -36,14 +39,20 @@ unfolding Below.all Below.any Below.first Below.sumTo Below.count Below.loop Bel
 openSets = tt
 
 unfoldable pub openSheet : Unit {0}
-unfolding Sheet.linkOk Sheet.linksOk Sheet.freqOk Sheet.linkFreqsOk Sheet.freqsOk Sheet.before Sheet.plainOk
+unfolding Form.formBy Rows.linkFirst Rows.linkCount Rows.linkWidth Sheet.linkOk Sheet.linkRowsOk Sheet.linksOk
+    Sheet.widthOk Sheet.widthRowsOk Sheet.widthsOk Sheet.freqOk Sheet.linkFreqsOk Sheet.freqsOk Sheet.before Sheet.plainOk
     Sheet.kindOk Sheet.listed Sheet.ruleRises Sheet.ruleRowOk Sheet.ruleOk Sheet.rulesOk Sheet.pairRises Sheet.pairOk
     Sheet.rulePairsOk Sheet.pairsOk Refusal.formOk Refusal.linkCountOk Refusal.countsOk Refusal.tableOk
     Refusal.offsetsOk Refusal.unless Refusal.sectionCause Refusal.refusal
 openSheet = tt
 
+unfoldable pub openCheck : Unit {0}
+unfolding Plans.placeOf Plans.hasFreq Plans.vertexOf Plans.inLists Plans.pairKept Plans.linkKept Plans.keeps
+    Plans.keepsJob Plans.checked
+openCheck = tt
+
 unfoldable pub openGraph : Unit {0}
-unfolding Pairs.distance Pairs.samePair Pairs.listsPair Pairs.agree Pairs.ofLinks Pairs.differ Pairs.allows Pairs.joins
+unfolding Pairs.distance Pairs.samePair Pairs.listsPair Pairs.spaced Pairs.agree Pairs.ruleWidths Pairs.ofLinks Pairs.differ Pairs.allows Pairs.joins
     Layers.layerOf
     Micro.linksDiffer Micro.adjacent Graph.inClass Graph.size Graph.some Graph.lone Graph.two Graph.lower Graph.isOpen
     Listing.byLayer

@@ -1,4 +1,5 @@
--- The sheets with known results to prove: M1 to M12 as one list, and that of Ask 2. A case that holds computes to true.
+-- The sheets with known results to prove: M1 to M12 as one list, and those of Asks 2 and 3. A case that holds computes
+-- to true.
 use mathlib.Core.Bool.{Bool, true, false, _&&_}
 use mathlib.Core.List.{List, [], _∷_}
 use Prim.Native.Nat.{ℕ}
@@ -8,7 +9,9 @@ use lib.ListN.{length}
 use Rattle.sets.specs.Below.{all}
 use Rattle.sets.specs.Sets.{whole}
 use Rattle.sheet.specs.Sheet.{nOf}
+use Rattle.sheet.specs.Refusal.{refusal}
 use Rattle.rules.specs.Job.{Job, jobOf}
+use Rattle.rules.specs.Plans.{checked}
 use Rattle.filters.specs.PreFilter.{preFilter}
 use Rattle.graph.specs.Graph.{layer, graphOf}
 use Rattle.setting.specs.Setting.{Setting}
@@ -16,7 +19,7 @@ use Rattle.work_words.specs.Layout.{workWords}
 use Rattle.planner.specs.Outcome.{Outcome, outcome}
 use Rattle.lines.specs.Lines.{ascii}
 use Rattle.text.specs.Text.{printed}
-use Rattle.cases.specs.Encode.{RuleGiven, encode}
+use Rattle.cases.specs.Encode.{RuleGiven, encode, encodeWide}
 
 abbrev pub spaced : ℕ → List RuleGiven
 spaced d = record { a = 0; b = 1; kind = 1; value = d; pairs = [] } ∷ []
@@ -50,11 +53,13 @@ example3 =
     (table 0 1 ((0, 0) ∷ (1, 0) ∷ (1, 1) ∷ (1, 2) ∷ []) ∷ table 0 2 ((0, 0) ∷ []) ∷ table 1 2 ((1, 0) ∷ []) ∷ [])
 
 -- a planning call of a sheet, under each filter of a list and each choice of a list, with a plan cell for each cell of
--- the outcome; the printed text; the vertices that the pre-filter leaves
+-- the outcome; the printed text; the vertices that the pre-filter leaves; the reader's number; the check's, of cells
 pub data Case : Type 0 where
   plans : List ℕ → List ℕ → List ℕ → Outcome → Case
   prints : List ℕ → String → Case
   leaves : List ℕ → List ℕ → Case
+  reads : List ℕ → ℕ → Case
+  checks : List ℕ → List ℕ → ℕ → Case
 
 abbrev pub sameList : List ℕ → List ℕ → Bool
 sameList [] [] = true
@@ -95,6 +100,8 @@ holds (plans s filters choices o) =
     sameOutcome (outcome (jobOf s) (settingWith filter choice) (length (o .cells)) workWords) o
 holds (prints s text) = sameList (printed s) (ascii text)
 holds (leaves s vs) = all (nOf s) (λ v. bothOrNeither (isLeft (jobOf s) v) (isIn vs v))
+holds (reads s number) = eqb (refusal s) number
+holds (checks s cells number) = eqb (checked (jobOf s) cells) number
 
 abbrev pub allHold : List Case → Bool
 allHold [] = true
@@ -139,5 +146,28 @@ shared =
     plans (oneCarrier []) anyFilter (1 ∷ []) (noPlanIn 0 (0 ∷ 0 ∷ [])) ∷
     plans (oneCarrier (table 0 1 ((0, 0) ∷ []) ∷ [])) anyFilter (0 ∷ 1 ∷ []) (foundIn 3 (500000 ∷ 500000 ∷ [])) ∷ []
 
+-- Ask 3: the links of M1 in form 2, with a width each, and a rule of a kind and value
+abbrev pub wide : ℕ → ℕ → ℕ → ℕ → List ℕ
+wide v w kind value =
+    encodeWide (v ∷ w ∷ []) ((500000 ∷ 500400 ∷ []) ∷ (500000 ∷ 500300 ∷ []) ∷ [])
+    (record { a = 0; b = 1; kind = kind; value = value; pairs = [] } ∷ [])
+
+-- between edges of 30 and 50 kHz no pair leaves 400 kHz and one leaves 360, which is missed by half a kHz where a
+-- carrier is wider by 1; kind 2 on centres; the widths' range; 16 after 5, its sum too, and before 6
+abbrev pub edges : List Case
+edges =
+    plans (wide 30 50 1 400) (0 ∷ []) (0 ∷ []) (noPlanIn 3 (0 ∷ 0 ∷ [])) ∷
+    plans (wide 30 50 1 400) (1 ∷ 7 ∷ []) (0 ∷ []) (noPlanIn 0 (0 ∷ 0 ∷ [])) ∷
+    plans (wide 30 50 1 360) (0 ∷ []) (0 ∷ []) (foundIn 4 (500400 ∷ 500000 ∷ [])) ∷
+    plans (wide 30 51 1 360) (0 ∷ []) (0 ∷ []) (noPlanIn 3 (0 ∷ 0 ∷ [])) ∷
+    plans (wide 20000 20000 2 400) (0 ∷ []) (0 ∷ []) (foundIn 4 (500400 ∷ 500000 ∷ [])) ∷
+    checks (wide 30 50 1 360) (500400 ∷ 500000 ∷ []) 100 ∷
+    checks (wide 30 51 1 360) (500400 ∷ 500000 ∷ []) 0 ∷
+    reads (wide 1 20000 1 360) 0 ∷
+    reads (wide 0 50 1 360) 16 ∷
+    reads (wide 30 20001 1 360) 16 ∷
+    reads (encodeWide (0 ∷ 1 ∷ []) ((500000 ∷ []) ∷ [] ∷ []) []) 5 ∷
+    reads (encodeWide (1 ∷ 0 ∷ []) ((0 ∷ []) ∷ (500000 ∷ []) ∷ []) []) 16 ∷ []
+
 abbrev pub CasesHold : Type 0
-CasesHold = T (allHold cases && allHold shared)
+CasesHold = T (allHold cases && (allHold shared && allHold edges))

@@ -26,6 +26,12 @@ abbrev pub givenLinks : ℕ → List (List ℕ) → List ℕ
 givenLinks at [] = []
 givenLinks at (l ∷ ls) = bytes16 at ++ bytes16 (length l) ++ givenLinks (at + length l) ls
 
+-- the same with a width each; a link that no width is given for has no row
+abbrev pub givenWide : ℕ → List (List ℕ) → List ℕ → List ℕ
+givenWide at [] ws = []
+givenWide at (l ∷ ls) [] = []
+givenWide at (l ∷ ls) (w ∷ ws) = bytes16 at ++ bytes16 (length l) ++ bytes32 w ++ givenWide (at + length l) ls ws
+
 abbrev pub givenFreqs : List (List ℕ) → List ℕ
 givenFreqs [] = []
 givenFreqs (l ∷ ls) = go l ++ givenFreqs ls
@@ -49,14 +55,21 @@ abbrev pub givenPairs : List RuleGiven → List ℕ
 givenPairs [] = []
 givenPairs (r ∷ rs) = givenPair (r .pairs) ++ givenPairs rs
 
--- the sheet of lists of frequencies and rule rows
-abbrev pub encode : List (List ℕ) → List RuleGiven → List ℕ
-encode ls rs =
-    let k = length ls in
+-- the sheet of a form whose link rows have so many bytes, of its link section, lists of frequencies and rule rows
+abbrev pub encodeBy : ℕ → ℕ → List ℕ → List (List ℕ) → List RuleGiven → List ℕ
+encodeBy form bytes links ls rs =
     let n = total ls in
     let q = length rs in
     let t = pairCount rs in
-    bytes32 1 ++ bytes32 k ++ bytes32 n ++ bytes32 q ++ bytes32 t ++
-    bytes32 40 ++ bytes32 (40 + 4 * k) ++ bytes32 (40 + 4 * k + 4 * n) ++ bytes32 (40 + 4 * k + 4 * n + 12 * q) ++
-    bytes32 (40 + 4 * k + 4 * n + 12 * q + 4 * t) ++
-    givenLinks 0 ls ++ givenFreqs ls ++ givenRules 0 rs ++ givenPairs rs
+    let at = 40 + bytes * length ls in
+    bytes32 form ++ bytes32 (length ls) ++ bytes32 n ++ bytes32 q ++ bytes32 t ++
+    bytes32 40 ++ bytes32 at ++ bytes32 (at + 4 * n) ++ bytes32 (at + 4 * n + 12 * q) ++
+    bytes32 (at + 4 * n + 12 * q + 4 * t) ++
+    links ++ givenFreqs ls ++ givenRules 0 rs ++ givenPairs rs
+
+-- in form 1, and in form 2 with widths
+abbrev pub encode : List (List ℕ) → List RuleGiven → List ℕ
+encode ls rs = encodeBy 1 4 (givenLinks 0 ls) ls rs
+
+abbrev pub encodeWide : List ℕ → List (List ℕ) → List RuleGiven → List ℕ
+encodeWide ws ls rs = encodeBy 2 8 (givenWide 0 ls ws) ls rs

@@ -11,7 +11,7 @@ use lib.Dec.{eqb, leb, ltb}
 use borrow.Author.Tests.{ltb-true, ltb-false, lt-ltb, le-ltb, le-leb, lt-leb, eq-eqb, eqb-true}
 use Rattle.sets.proofs.Tests.{iff, bool}
 use Rattle.sheet_rows.specs.Rows.{linkFirst, linkCount, freq}
-use Rattle.sheet.specs.Sheet.{kOf, nOf, linkPart, freqPart}
+use Rattle.sheet.specs.Sheet.{kOf, nOf, freqPart}
 use Rattle.sheet.specs.Accepted.{Accepted}
 use Rattle.cliques.specs.Listing.{byLayer}
 use Rattle.rules.specs.Job.{Job, jobOf}
@@ -24,14 +24,14 @@ use Rattle.cells.specs.Cells.{chosenBy, cellOf, Chosen}
 
 module _ (s : List ℕ) (A : Accepted s) (l v : ℕ) (a : l < kOf s) (b : v < nOf s) where
   abbrev from : ℕ
-  from = linkFirst (linkPart s) l
+  from = linkFirst s l
 
   abbrev count : ℕ
-  count = linkCount (linkPart s) l
+  count = linkCount s l
 
   -- the code's test of a vertex's link
   in-link-is : (leb from v && ltb v (from + count)) ≡ eqb (layer (jobOf s) v) l
-  in-link-is = link-test (linkPart s) (kOf s) (nOf s) (A .links) l v a b
+  in-link-is = link-test s (kOf s) (nOf s) (A .links) l v a b
       ∙ iff _ _ (λ e. eq-eqb _ _ (sym (eqb-true l (layer (jobOf s) v) e)))
       (λ e. eq-eqb _ _ (sym (eqb-true (layer (jobOf s) v) l e)))
 

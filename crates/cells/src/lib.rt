@@ -36,12 +36,11 @@ fn in_link(sheet: &[u8], l: usize, v: usize) -> bool
     requires { ⌜ Accepted (now sheet) × (l < kOf (now sheet)) × (v < nOf (now sheet)) ⌝ }
     ensures { λ r. ⌜ r ≡ eqb (layer (jobOf (now (sheet .entry))) v) l ⌝ }
 {
-    let ls = &sheet[40..];
-    let from = link_first(ls, l);
+    let from = link_first(sheet, l);
     if v < from {
         return false;
     }
-    v - from < link_count(ls, l)
+    v - from < link_count(sheet, l)
 }
 
 // The class whose chosen vertex is one of link l.

@@ -7,9 +7,8 @@ use native.Mathlib.Omega.{arith}
 use lib.ListN.{length}
 use borrow.Author.Tests.{le-leb}
 use Rattle.sheet.specs.Sheet.{kOf}
-use Rattle.sheet.specs.Refusal.{refusal, causeNumber}
-use Rattle.sheet.specs.declared.Cause.{Cause}
-use Rattle.sheet.specs.declared.Cause.the-variants.{Form, Links, Counts, Offsets, LinkRow, Frequency, RuleRow, PairRow}
+use Rattle.sheet.specs.Refusal.{refusal}
+use Rattle.sheet.proofs.Causes.{cause-most, cause-some}
 use Rattle.rules.specs.Job.{Job}
 use Rattle.rules.specs.Plans.{cellsOf, keepsJob, checked, checkNumber}
 use Rattle.rules.specs.declared.CheckAnswer.{CheckAnswer}
@@ -37,29 +36,17 @@ call-demand1 = record {
 }
 
 -- no other answer has the number of yes, and none that of no
-cause-few : (x : Cause) → (0 < causeNumber x) × (causeNumber x < 9)
-cause-few x = elim x [
-  | Form ↦ (omega arith, omega arith)
-  | Links ↦ (omega arith, omega arith)
-  | Counts ↦ (omega arith, omega arith)
-  | Offsets ↦ (omega arith, omega arith)
-  | LinkRow ↦ (omega arith, omega arith)
-  | Frequency ↦ (omega arith, omega arith)
-  | RuleRow ↦ (omega arith, omega arith)
-  | PairRow ↦ (omega arith, omega arith)
-]
-
 is-yes : (a : CheckAnswer) → checkNumber a ≡ 100 → a ≡ Yes
 is-yes Yes e = refl
 is-yes No e = absurd (omega arith)
 is-yes Few e = absurd (omega arith)
-is-yes (Refused x) e = absurd (omega (arith, cause-few x))
+is-yes (Refused x) e = absurd (omega (arith, cause-most x))
 
 is-no : (a : CheckAnswer) → checkNumber a ≡ 0 → a ≡ No
 is-no No e = refl
 is-no Yes e = absurd (omega arith)
 is-no Few e = absurd (omega arith)
-is-no (Refused x) e = absurd (omega (arith, cause-few x))
+is-no (Refused x) e = absurd (omega (arith, cause-some x))
 
 -- cells of an accepted sheet that break a rule
 checked-no : (job : Job) (cells : List ℕ) → refusal (job .sheet) ≡ 0 → kOf (job .sheet) ≤ length cells

@@ -3,8 +3,7 @@ use mathlib.Core.Path.{_≡_, refl, _∙_}
 use mathlib.Core.List.{List}
 use Prim.Native.Nat.{ℕ, _+_, _*_, _^_, _≤_}
 use native.Mathlib.Omega.{arith}
-use Rattle.sheet.specs.Refusal.{causeNumber}
-use Rattle.sheet.specs.declared.Cause.{Cause}
+use Rattle.sheet.proofs.Causes.{cause-most}
 use Rattle.dimacs.specs.Export.{ExportOutcome}
 use Rattle.dimacs.specs.Import.{ImportOutcome}
 use Rattle.graph_export.specs.Gives.{exportNumber, ExportGives}
@@ -14,19 +13,9 @@ use Rattle.graph_import.specs.Gives.{importNumber, ImportGives}
 use Rattle.graph_import.specs.declared.Imported.{Imported}
 use Rattle.desk.specs.Desk.{exportWord, ExportHanded, importWord, ImportHanded}
 
-cause-few : (c : Cause) → causeNumber c ≤ 8
-cause-few Cause.Form = omega arith
-cause-few Cause.Links = omega arith
-cause-few Cause.Counts = omega arith
-cause-few Cause.Offsets = omega arith
-cause-few Cause.LinkRow = omega arith
-cause-few Cause.Frequency = omega arith
-cause-few Cause.RuleRow = omega arith
-cause-few Cause.PairRow = omega arith
-
-pub export-few : (a : ExportAnswer) → exportNumber a ≤ 15
+pub export-few : (a : ExportAnswer) → exportNumber a ≤ 16
 export-few ExportAnswer.Written = omega arith
-export-few (ExportAnswer.BadSheet c) = omega (arith, cause-few c)
+export-few (ExportAnswer.BadSheet c) = omega (arith, cause-most c)
 export-few ExportAnswer.Short = omega arith
 
 pub export-handed : {o : ExportOutcome} {e : Exported} {r : ℕ} {g c : List ℕ} → ExportGives o e g c

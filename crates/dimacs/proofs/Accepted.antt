@@ -9,27 +9,31 @@ use lib.ListN.{length, drop}
 use borrow.Author.Tests.{lt-ltb, le-leb, eq-eqb}
 use Rattle.sets.proofs.Tests.{and-in}
 use Rattle.wire.specs.Fields.{le32}
-use Rattle.sheet.specs.Sheet.{kOf, nOf, qOf, tOf, mostLinks, mostFreqs, mostRules, mostPairs, headerBytes, freqsAt}
-use Rattle.sheet.specs.Sheet.{rulesAt, pairsAt, endAt, linkPart, freqPart, rulePart, pairPart, linksOk, freqsOk}
+use Rattle.sheet_rows.specs.declared.Form.{Form}
+use Rattle.sheet_rows.specs.Rows.{headerBytes, linkBytes}
+use Rattle.sheet_rows.proofs.Rows.{one-is}
+use Rattle.sheet.specs.Sheet.{kOf, nOf, qOf, tOf, mostRules, mostPairs, freqsAt, rulesAt, pairsAt, endAt}
+use Rattle.sheet.specs.Sheet.{freqPart, rulePart, pairPart, linksOk, widthsOk, freqsOk}
 use Rattle.sheet.specs.Sheet.{rulesOk, pairsOk}
+use Rattle.sheet.proofs.Links.{no-widths}
 use Rattle.sheet.specs.Refusal.{formOk, linkCountOk, countsOk, tableOk, offsetsOk, unless, sectionCause, refusal}
 use Rattle.dimacs.specs.Reading.{verticesOf}
-use Rattle.dimacs.specs.Made.{linkRows, freqRows, ruleTotal, pairTotal, ruleRows, pairRows, sheetOf}
+use Rattle.dimacs.specs.Made.{madeBytes, linkRows, freqRows, ruleTotal, pairTotal, ruleRows, pairRows, sheetOf}
 use Rattle.dimacs.proofs.Fields.{sections}
 use Rattle.dimacs.proofs.Accepts.{Small, in-all, links-ok, freqs-ok, rules-ok, pairs-ok}
 use Rattle.dimacs.proofs.Few.{rules-few}
 
 -- a sheet whose tests hold is accepted
 pub no-cause : (s : List ℕ) → formOk s ≡ true → linkCountOk s ≡ true → countsOk s ≡ true → offsetsOk s ≡ true
-    → linksOk (linkPart s) (kOf s) (nOf s) ≡ true → freqsOk (linkPart s) (freqPart s) (kOf s) ≡ true
+    → linksOk s (kOf s) (nOf s) ≡ true → widthsOk s (kOf s) ≡ true → freqsOk s (freqPart s) (kOf s) ≡ true
     → rulesOk (rulePart s) (kOf s) (qOf s) (tOf s) ≡ true
-    → pairsOk (linkPart s) (rulePart s) (pairPart s) (qOf s) ≡ true → refusal s ≡ 0
+    → pairsOk s (rulePart s) (pairPart s) (qOf s) ≡ true → refusal s ≡ 0
 unfolding refusal sectionCause unless
-no-cause s a b c d e f g h = rw (a, b, c, d, e, f, g, h)
+no-cause s a b c d e w f g h = rw (a, b, c, d, e, w, f, g, h)
 
 module _ (cs : List ℕ) (adj : ℕ → ℕ → Bool) (S : Small cs) (few : pairTotal cs adj ≤ mostPairs) where
   freqs-some : 0 < verticesOf cs
-  freqs-some = omega (arith, in-all cs cs S 0 0 (S .links-some) (S .some 0 (S .links-some)))
+  freqs-some = omega (arith, in-all cs 0 0 (S .links-some) (S .some 0 (S .links-some)))
 
   pub sheet-accepted : refusal (sheetOf cs adj) ≡ 0
   unfolding formOk linkCountOk countsOk offsetsOk tableOk
@@ -38,17 +42,20 @@ module _ (cs : List ℕ) (adj : ℕ → ℕ → Bool) (S : Small cs) (few : pair
       let s = sheetOf cs adj in
       let o = Q .offsets in
       let long : headerBytes ≤ length s = omega (arith, Q .long) in
+      let one = Q .form ∙ one-is in
+      let four : linkBytes s ≡ madeBytes = ap (λ (f : Form). f .bytes) one in
       no-cause s
-      (and-in (le-leb _ _ long) (eq-eqb _ _ (o .form)))
-      (rw (Q .k) (and-in (lt-ltb _ _ (S .links-some)) (le-leb _ _ (S .links-few))))
-      (rw (Q .n, Q .q, Q .t)
+      (and-in (le-leb _ _ long) (ap (λ (f : Form). f .known) one))
+      (rw (one, Q .k) (and-in (lt-ltb _ _ (S .links-some)) (le-leb _ _ (S .links-few))))
+      (rw (one, Q .n, Q .q, Q .t)
       (and-in (and-in (and-in (lt-ltb _ _ freqs-some) (le-leb _ _ (S .freqs-few)))
       (le-leb _ _ (rules-few cs adj S))) (le-leb _ _ few)))
-      (rw (Q .k, Q .n, Q .q, Q .t)
+      (rw (four, Q .k, Q .n, Q .q, Q .t)
       (and-in (and-in
       (and-in (and-in (and-in (eq-eqb _ _ (o .links)) (eq-eqb _ _ (o .freqs))) (eq-eqb _ _ (o .rules)))
       (eq-eqb _ _ (o .pairs))) (eq-eqb _ _ (o .end))) (eq-eqb _ _ (Q .long))))
-      (rw (Q .links, Q .k, Q .n) (links-ok cs _ S))
-      (rw (Q .links, Q .freqs, Q .k) (freqs-ok cs _ S _))
+      (rw (Q .k, Q .n) (links-ok cs s S (Q .links)))
+      (no-widths s (kOf s) four)
+      (rw (Q .freqs, Q .k) (freqs-ok cs s S (Q .links) _))
       (rw (Q .rules, Q .k, Q .q, Q .t) (rules-ok cs adj S _))
-      (rw (Q .links, Q .rules, Q .pairs, Q .q) (pairs-ok cs adj S _ _))
+      (rw (Q .rules, Q .pairs, Q .q) (pairs-ok cs adj S s _ (Q .links)))

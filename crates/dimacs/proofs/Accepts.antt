@@ -10,9 +10,9 @@ use borrow.Author.Tests.{lt-ltb, le-leb, eq-eqb, ltb-true, eqb-true, eqb-false, 
 use Rattle.sets.specs.Below.{all, sumTo, count}
 use Rattle.sets.proofs.Tests.{bool, clash, below, and-l, and-r, and-in, or-l, or-r, not-out}
 use Rattle.sets.proofs.Below.{all-in, sum-in}
-use Rattle.sheet_rows.specs.Rows.{linkFirst, linkCount, freq, ruleA, ruleB, ruleKind, ruleCount, ruleValue, pairFirst}
-use Rattle.sheet_rows.specs.Rows.{pairSecond}
-use Rattle.sheet.specs.Sheet.{mostKHz, linkOk, linksOk, freqOk, linkFreqsOk, freqsOk, before, plainOk, kindOk, only}
+use Rattle.sheet_rows.specs.Rows.{linkFirst, linkCount, freq, ruleA, ruleB, ruleKind, ruleCount, ruleValue}
+use Rattle.sheet_rows.specs.Rows.{pairFirst, pairSecond}
+use Rattle.sheet.specs.Sheet.{mostKHz, linkOk, linkRowsOk, linksOk, freqOk, linkFreqsOk, freqsOk, before, plainOk, kindOk, only}
 use Rattle.sheet.specs.Sheet.{listed, ruleRises, ruleRowOk, ruleOk, rulesOk, pairRises, pairOk, rulePairsOk, pairsOk}
 use Rattle.dimacs.specs.Lists.{select}
 use Rattle.dimacs.specs.Reading.{countOf, firstOf, verticesOf}
@@ -20,7 +20,7 @@ use Rattle.dimacs.specs.Made.{linkRows, freqRows, isPair, pairsOf, isFul
 use Rattle.dimacs.specs.Made.{ruledB, kindOf, valueOf, pairsBefore, ruleTotal, pairTotal, ruleRows, pairRows}
 use Rattle.dimacs.proofs.Lists.{Selected, select-length, select-at, select-rises}
 use Rattle.dimacs.proofs.Codes.{first-lt, second-lt, code-before}
-use Rattle.dimacs.proofs.Fields.{first-field, count-field, freq-field, a-field, b-field, kind-field, pairs-field}
+use Rattle.dimacs.proofs.Fields.{Counted, freq-field, a-field, b-field, kind-field, pairs-field}
 use Rattle.dimacs.proofs.Fields.{value-field, first-position, second-position}
 
 pub sum-same : (m : ℕ) (f g : ℕ → ℕ) → ((i : ℕ) → i < m → f i ≡ g i) → sumTo m f ≡ sumTo m g
@@ -36,29 +36,29 @@ pub record Small (cs : List ℕ) : Type 0 where
   pub some : (l : ℕ) → l < length cs → 0 < countOf cs l
 
 -- links and frequencies
-module _ (cs rest : List ℕ) (S : Small cs) where
-  pub counts-sum : (m : ℕ) → m ≤ length cs → sumTo m (linkCount (linkRows cs ++ rest)) ≡ firstOf cs m
-  unfolding firstOf
-  counts-sum m h = sum-same m (linkCount (linkRows cs ++ rest)) (countOf cs)
-      (λ i l. count-field cs rest i (omega arith))
 
-  pub links-ok : linksOk (linkRows cs ++ rest) (length cs) (verticesOf cs) ≡ true
-  unfolding linksOk linkOk
+pub in-all : (cs : List ℕ) (l i : ℕ) → l < length cs → i < countOf cs l → firstOf cs l + i < verticesOf cs
+unfolding firstOf
+in-all cs l i h g = omega (arith, sum-in (length cs) l (countOf cs) h)
+
+module _ (cs s : List ℕ) (S : Small cs) (L : Counted cs s) where
+  pub counts-sum : (m : ℕ) → m ≤ length cs → sumTo m (linkCount s) ≡ firstOf cs m
+  unfolding firstOf
+  counts-sum m h = sum-same m (linkCount s) (countOf cs) (λ i l. L .count i (omega arith))
+
+  pub links-ok : linksOk s (length cs) (verticesOf cs) ≡ true
+  unfolding linksOk linkRowsOk linkOk linkFirst linkCount
   links-ok = and-in
       (all-in (length cs) _ (λ l h.
-      let o : 0 < linkCount (linkRows cs ++ rest) l = rw (count-field cs rest l h) (S .some l h) in
-      and-in (eq-eqb _ _ (first-field cs rest l h ∙ sym (counts-sum l (omega arith)))) (lt-ltb _ _ o)))
+      let o : 0 < linkCount s l = rw (L .count l h) (S .some l h) in
+      and-in (eq-eqb _ _ (L .first l h ∙ sym (counts-sum l (omega arith)))) (lt-ltb _ _ o)))
       (eq-eqb _ _ (counts-sum (length cs) (omega arith)))
 
-  pub in-all : (l i : ℕ) → l < length cs → i < countOf cs l → firstOf cs l + i < verticesOf cs
-  unfolding firstOf
-  in-all l i h g = omega (arith, sum-in (length cs) l (countOf cs) h)
-
-  pub freqs-ok : (more : List ℕ) → freqsOk (linkRows cs ++ rest) (freqRows cs ++ more) (length cs) ≡ true
+  pub freqs-ok : (more : List ℕ) → freqsOk s (freqRows cs ++ more) (length cs) ≡ true
   unfolding freqsOk linkFreqsOk freqOk
-  freqs-ok more = all-in (length cs) _ (λ l h. rw (first-field cs rest l h, count-field cs rest l h)
+  freqs-ok more = all-in (length cs) _ (λ l h. rw (L .first l h, L .count l h)
       (all-in (countOf cs l) _ (λ i g.
-      let b = in-all l i h g in
+      let b = in-all cs l i h g in
       let f = freq-field cs more (firstOf cs l + i) b in
       let few = S .freqs-few in
       let x : 0 < freq (freqRows cs ++ more) (firstOf cs l + i) = omega arith in
@@ -191,10 +191,10 @@ module _ (cs : List ℕ) (adj : ℕ → ℕ → Bool) (S : Small cs) where
   value-is j o = value-some (eqb (length (rulePairs cs adj j)) 0) (length (rulePairs cs adj j)) (pairsBefore cs adj j) o
       refl
 
-  pub pairs-ok : (more rest : List ℕ)
-      → pairsOk (linkRows cs ++ more) (ruleRows cs adj ++ rest) (pairRows cs adj) (ruleTotal cs adj) ≡ true
+  pub pairs-ok : (s rest : List ℕ) → Counted cs s
+      → pairsOk s (ruleRows cs adj ++ rest) (pairRows cs adj) (ruleTotal cs adj) ≡ true
   unfolding pairsOk rulePairsOk
-  pairs-ok more rest = all-in (ruleTotal cs adj) _ (λ j h.
+  pairs-ok s rest L = all-in (ruleTotal cs adj) _ (λ j h.
       let r = ruled-is j h in
       let o = r .order in
       let b : ruledA cs adj j < length cs = omega (arith, r .within) in
@@ -203,7 +203,7 @@ module _ (cs : List ℕ) (adj : ℕ → ℕ → Bool) (S : Small cs) where
         value-field cs adj rest j h,
         a-field cs adj rest j h,
         b-field cs adj rest j h,
-        count-field cs more (ruledA cs adj j) b,
-        count-field cs more (ruledB cs adj j) (r .within),
+        L .count (ruledA cs adj j) b,
+        L .count (ruledB cs adj j) (r .within),
       )
       (all-in (length (rulePairs cs adj j)) _ (λ i g. rw (value-is j (omega arith)) (pair-ok j i h g))))

@@ -14,7 +14,7 @@ use Rattle.sheet_rows.specs.Rows.{linkFirst, freq, pairFirst}
 use Rattle.sheet.specs.Sheet.{mostKHz, kOf}
 use Rattle.rules.specs.Layers.{layerOf, InLink}
 use Rattle.rules.specs.Pairs.{distance, samePair, listsPair, agree, ofLinks, differ, allows, joins}
-use Rattle.rules.proofs.Laws.{layer-in}
+use Rattle.rules.proofs.Laws.{layer-in, spaced-near}
 use Rattle.rules.proofs.Pairing.{of-in, of-out, joins-when}
 use Rattle.graph.specs.Graph.{linksDiffer, adjacent, layer, edge}
 use Rattle.graph.proofs.Graph.{adjacent-out, adjacent-sym}
@@ -25,7 +25,7 @@ use Rattle.dimacs.specs.Made.{ruledB, kindOf, valueOf, pairsBefore, rule
 use Rattle.dimacs.specs.RoundTrip.{HasGraph}
 use Rattle.dimacs.proofs.Lists.{count-pass, select-length, select-has}
 use Rattle.dimacs.proofs.Codes.{code-first, code-second, code-lt}
-use Rattle.dimacs.proofs.Fields.{first-field, count-field, freq-field, a-field, b-field, kind-field, pairs-field}
+use Rattle.dimacs.proofs.Fields.{Counted, freq-field, a-field, b-field, kind-field, pairs-field}
 use Rattle.dimacs.proofs.Fields.{value-field, first-position, second-position, sections}
 use Rattle.dimacs.proofs.Accepts.{Small, links-ok, ruled-is, pair-at, value-is}
 
@@ -54,10 +54,9 @@ either a b ne f g = bool (ltb a b) (λ e. f (ltb-true a b e)) (λ e. g (lower (l
     lower h = omega (arith, ne)
 
 -- adjacency by equal sections and counts
-parts-same : {a a′ b b′ c c′ d d′ : List ℕ} {k k′ n n′ q q′ : ℕ} → a ≡ a′ → b ≡ b′ → c ≡ c′ → d ≡ d′ → k ≡ k′ → n ≡ n′
-    → q ≡ q′
-    → _≡_ {A = ℕ → ℕ → Bool} (λ u v. adjacent a b c d k n q u v) (adjacent a′ b′ c′ d′ k′ n′ q′)
-parts-same e f g h i j l = rw (e, f, g, h, i, j, l)
+parts-same : (s : List ℕ) {b b′ c c′ d d′ : List ℕ} {k k′ n n′ q q′ : ℕ} → b ≡ b′ → c ≡ c′ → d ≡ d′ → k ≡ k′ → n ≡ n′ → q ≡ q′
+    → _≡_ {A = ℕ → ℕ → Bool} (λ u v. adjacent s b c d k n q u v) (adjacent s b′ c′ d′ k′ n′ q′)
+parts-same s f g h i j l = rw (f, g, h, i, j, l)
 
 -- layers
 
@@ -73,19 +72,18 @@ pub record In (cs : List ℕ) (l v : ℕ) : Type 0 where
   pub low : firstOf cs l ≤ v
   pub high : v < firstOf cs l + countOf cs l
 
-module _ (cs : List ℕ) (S : Small cs) where
-  pub layer-rows : (rest : List ℕ) (v : ℕ) → layerOf (linkRows cs ++ rest) (length cs) v ≡ layerBy cs (length cs) v
-  layer-rows rest v = layer-same (linkRows cs ++ rest) cs (length cs) (first-field cs rest) v
+module _ (cs s : List ℕ) (S : Small cs) (L : Counted cs s) where
+  pub layer-rows : (v : ℕ) → layerOf s (length cs) v ≡ layerBy cs (length cs) v
+  layer-rows v = layer-same s cs (length cs) (L .first) v
 
   pub layer-has : (v : ℕ) → v < verticesOf cs → In cs (layerBy cs (length cs) v) v
   layer-has v h =
-      let p = linkRows cs ++ [] in
-      let r = layer-in p (length cs) (verticesOf cs) (links-ok cs [] S) v h in
-      let e = layer-rows [] v in
+      let r = layer-in s (length cs) (verticesOf cs) (links-ok cs s S L) v h in
+      let e = layer-rows v in
       let l : layerBy cs (length cs) v < length cs = rw e at (r .0) in
-      let i : InLink p (layerBy cs (length cs) v) v = rw e at (r .1) in
-      let f = first-field cs [] (layerBy cs (length cs) v) l in
-      let c = count-field cs [] (layerBy cs (length cs) v) l in
+      let i : InLink s (layerBy cs (length cs) v) v = rw e at (r .1) in
+      let f = L .first (layerBy cs (length cs) v) l in
+      let c = L .count (layerBy cs (length cs) v) l in
       record { link = l; low = omega (arith, i .low); high = omega (arith, i .high) }
 
 link-within : (cs : List ℕ) (l : ℕ) → l < length cs → firstOf cs l + countOf cs l ≤ verticesOf cs
@@ -143,8 +141,8 @@ module _ (cs : List ℕ) (adj : ℕ → ℕ → Bool) (S : Small cs) where
     )
 
   -- what rule row j says of a vertex of its link a and a vertex of its link b
-  module _ (more also rest : List ℕ) (j u v : ℕ) (h : j < ruleTotal cs adj) (x : In cs (ruledA cs adj j) u)
-      (y : In cs (ruledB cs adj j) v) where
+  module _ (s also rest : List ℕ) (L : Counted cs s) (j u v : ℕ) (h : j < ruleTotal cs adj)
+      (x : In cs (ruledA cs adj j) u) (y : In cs (ruledB cs adj j) v) where
     abbrev a : ℕ
     a = ruledA cs adj j
 
@@ -187,25 +185,24 @@ module _ (cs : List ℕ) (adj : ℕ → ℕ → Bool) (S : Small cs) where
             ∙ code-second (countOf cs b) (u - firstOf cs a) (v - firstOf cs b) d)))
 
     -- links joined by none: no frequencies differ by as much as 9,999,999
-    none-agree : length (rulePairs cs adj j) ≡ 0 → (l : Bool)
-        → agree (kindOf cs adj j) (valueOf cs adj j) (distance (u + 1) (v + 1)) l ≡ adj u v
+    none-agree : length (rulePairs cs adj j) ≡ 0 → (w : ℕ) (l : Bool)
+        → agree (kindOf cs adj j) (valueOf cs adj j) w (distance (u + 1) (v + 1)) l ≡ adj u v
     unfolding agree kindOf valueOf distance rulePairs
-    none-agree e l =
+    none-agree e w l =
         let few = S .freqs-few in
         let f : firstOf cs a + countOf cs a ≤ verticesOf cs = link-within cs a (x .link) in
         let g : firstOf cs b + countOf cs b ≤ verticesOf cs = link-within cs b (y .link) in
         let d : (u + 1 - (v + 1)) + (v + 1 - (u + 1)) < mostKHz = omega (arith, x .high, y .high) in
-        rw (e, lt-leb mostKHz _ d)
+        rw (e, ← spaced-near mostKHz w _ d)
         (sym (is-false (adj u v) (λ t. let r = listed-at a b u v x y t .0 in absurd (omega arith))))
 
-    some-agree : 0 < length (rulePairs cs adj j) → (d : ℕ) (l : Bool)
-        → agree (kindOf cs adj j) (valueOf cs adj j) d l ≡ l
+    some-agree : 0 < length (rulePairs cs adj j) → (w d : ℕ) (l : Bool)
+        → agree (kindOf cs adj j) (valueOf cs adj j) w d l ≡ l
     unfolding agree kindOf
-    some-agree o d l = let ne : length (rulePairs cs adj j) ≡ 0
+    some-agree o w d l = let ne : length (rulePairs cs adj j) ≡ 0
         → ⊥ = λ e. omega arith in rw (ne-eqb (length (rulePairs cs adj j)) 0 ne)
 
-    pub allows-is : allows (linkRows cs ++ more) (freqRows cs ++ also) (ruleRows cs adj ++ rest) (pairRows cs adj) j u v
-        ≡ adj u v
+    pub allows-is : allows s (freqRows cs ++ also) (ruleRows cs adj ++ rest) (pairRows cs adj) j u v ≡ adj u v
     unfolding allows listsPair
     allows-is =
         let f : firstOf cs a + countOf cs a ≤ verticesOf cs = link-within cs a (x .link) in
@@ -218,16 +215,16 @@ module _ (cs : List ℕ) (adj : ℕ → ℕ → Bool) (S : Small cs) where
           pairs-field cs adj rest j h,
           a-field cs adj rest j h,
           b-field cs adj rest j h,
-          first-field cs more a (x .link),
-          first-field cs more b (y .link),
+          L .first a (x .link),
+          L .first b (y .link),
           freq-field cs also u ul,
           freq-field cs also v vl,
         )
         (bool (eqb (length (rulePairs cs adj j)) 0)
-        (λ e. none-agree (eqb-true _ _ e) _)
+        (λ e. none-agree (eqb-true _ _ e) _ _)
         (λ e. let ne = eqb-false (length (rulePairs cs adj j)) 0 e in let o : 0 < length (rulePairs cs adj j) =
         omega (arith, ne) in
-        some-agree o _ _
+        some-agree o _ _ _
         ∙ ap (λ z. any (length (rulePairs cs adj j))
         (λ i. samePair (pairRows cs adj) (u - firstOf cs a) (v - firstOf cs b) (z + i))) (value-is cs adj S j o)
         ∙ lists))
@@ -249,10 +246,7 @@ module _ (cs : List ℕ) (adj : ℕ → ℕ → Bool) (S : Small cs) where
       )
 
   -- the rules allow just the pairs that are adjacent
-  module _ (more also rest : List ℕ) where
-    abbrev ls : List ℕ
-    ls = linkRows cs ++ more
-
+  module _ (s also rest : List ℕ) (L : Counted cs s) where
     abbrev fs : List ℕ
     fs = freqRows cs ++ also
 
@@ -264,8 +258,8 @@ module _ (cs : List ℕ) (adj : ℕ → ℕ → Bool) (S : Small cs) where
 
     module _ (a b u v : ℕ) (l : a < b) (x : In cs a u) (y : In cs b v) where
       row-says : (j : ℕ) → j < ruleTotal cs adj → ruledA cs adj j ≡ a → ruledB cs adj j ≡ b
-          → allows ls fs rs ps j u v ≡ adj u v
-      row-says j h p q = allows-is more also rest j u v h (rw p x) (rw q y)
+          → allows s fs rs ps j u v ≡ adj u v
+      row-says j h p q = allows-is s also rest L j u v h (rw p x) (rw q y)
 
       -- vertices of different links are on different frequencies
       apart : differ fs u v ≡ true
@@ -278,8 +272,8 @@ module _ (cs : List ℕ) (adj : ℕ → ℕ → Bool) (S : Small cs) where
           rw (freq-field cs also u ul, freq-field cs also v vl)
           (not-in (ne-eqb (u + 1) (v + 1) (λ e. omega (arith, x .high, y .low))))
 
-      pub joins-is : joins ls fs rs ps (ruleTotal cs adj) a b u v ≡ adj u v
-      joins-is = joins-when ls fs rs ps (ruleTotal cs adj) a b u v (adj u v)
+      pub joins-is : joins s fs rs ps (ruleTotal cs adj) a b u v ≡ adj u v
+      joins-is = joins-when s fs rs ps (ruleTotal cs adj) a b u v (adj u v)
           (λ j h e. let o = of-out rs a b j e in
           row-says j h (sym (a-field cs adj rest j h) ∙ o .0) (sym (b-field cs adj rest j h) ∙ o .1))
           (λ j h e. let o = of-out rs b a j e in
@@ -295,33 +289,33 @@ module _ (cs : List ℕ) (adj : ℕ → ℕ → Bool) (S : Small cs) where
 
     module _ (J : Joins cs adj) where
       lower-is : (u v : ℕ) → u < verticesOf cs → v < verticesOf cs → layerBy cs (length cs) u < layerBy cs (length cs) v
-          → adjacent ls fs rs ps (length cs) (verticesOf cs) (ruleTotal cs adj) u v ≡ adj u v
+          → adjacent s fs rs ps (length cs) (verticesOf cs) (ruleTotal cs adj) u v ≡ adj u v
       unfolding adjacent linksDiffer
       lower-is u v a b l =
           let ne : layerBy cs (length cs) u ≡ layerBy cs (length cs) v → ⊥ = λ e. omega arith in
-          rw (layer-rows cs S more u, layer-rows cs S more v, lt-ltb _ _ a, lt-ltb _ _ b, ne-eqb _ _ ne)
-          (joins-is (layerBy cs (length cs) u) (layerBy cs (length cs) v) u v l (layer-has cs S u a)
-          (layer-has cs S v b))
+          rw (layer-rows cs s S L u, layer-rows cs s S L v, lt-ltb _ _ a, lt-ltb _ _ b, ne-eqb _ _ ne)
+          (joins-is (layerBy cs (length cs) u) (layerBy cs (length cs) v) u v l (layer-has cs s S L u a)
+          (layer-has cs s S L v b))
 
-      only-joined : (u v : ℕ) → adjacent ls fs rs ps (length cs) (verticesOf cs) (ruleTotal cs adj) u v ≡ true
+      only-joined : (u v : ℕ) → adjacent s fs rs ps (length cs) (verticesOf cs) (ruleTotal cs adj) u v ≡ true
           → adj u v ≡ true
       only-joined u v t =
-          let r = adjacent-out ls fs rs ps (length cs) (verticesOf cs) (ruleTotal cs adj) u v t in
+          let r = adjacent-out s fs rs ps (length cs) (verticesOf cs) (ruleTotal cs adj) u v t in
           let ne : layerBy cs (length cs) u ≡ layerBy cs (length cs) v
-          → ⊥ = λ e. r .apart (layer-rows cs S more u ∙ e ∙ sym (layer-rows cs S more v)) in
+          → ⊥ = λ e. r .apart (layer-rows cs s S L u ∙ e ∙ sym (layer-rows cs s S L v)) in
           either (layerBy cs (length cs) u) (layerBy cs (length cs) v) ne
           (λ l. sym (lower-is u v (r .left) (r .right) l) ∙ t)
           (λ l. J .sy u v ∙ sym (lower-is v u (r .right) (r .left) l)
-          ∙ adjacent-sym ls fs rs ps (length cs) (verticesOf cs) (ruleTotal cs adj) v u ∙ t)
+          ∙ adjacent-sym s fs rs ps (length cs) (verticesOf cs) (ruleTotal cs adj) v u ∙ t)
 
       all-joined : (u v : ℕ) → adj u v ≡ true
-          → adjacent ls fs rs ps (length cs) (verticesOf cs) (ruleTotal cs adj) u v ≡ true
+          → adjacent s fs rs ps (length cs) (verticesOf cs) (ruleTotal cs adj) u v ≡ true
       all-joined u v t = either (layerBy cs (length cs) u) (layerBy cs (length cs) v) (J .apart u v t)
           (λ l. lower-is u v (J .left u v t) (J .right u v t) l ∙ t)
-          (λ l. adjacent-sym ls fs rs ps (length cs) (verticesOf cs) (ruleTotal cs adj) u v
+          (λ l. adjacent-sym s fs rs ps (length cs) (verticesOf cs) (ruleTotal cs adj) u v
           ∙ lower-is v u (J .right u v t) (J .left u v t) l ∙ J .sy v u ∙ t)
 
-      pub adjacent-is : adjacent ls fs rs ps (length cs) (verticesOf cs) (ruleTotal cs adj) ≡ adj
+      pub adjacent-is : adjacent s fs rs ps (length cs) (verticesOf cs) (ruleTotal cs adj) ≡ adj
       adjacent-is = fun-ext (λ u. fun-ext (λ v. iff _ _ (only-joined u v) (all-joined u v)))
 
   pub has-graph : Joins cs adj → HasGraph (sheetOf cs adj) cs adj
@@ -330,8 +324,8 @@ module _ (cs : List ℕ) (adj : ℕ → ℕ → Bool) (S : Small cs) where
       record {
         vertices = Q .n;
         links = Q .k;
-        layers = fun-ext (λ v. ap (λ p. layerOf p (kOf (sheetOf cs adj)) v) (Q .links)
-            ∙ ap (λ k. layerOf (linkRows cs ++ (freqRows cs ++ (ruleRows cs adj ++ pairRows cs adj))) k v) (Q .k)
-            ∙ layer-rows cs S _ v);
-        edges = parts-same (Q .links) (Q .freqs) (Q .rules) (Q .pairs) (Q .k) (Q .n) (Q .q) ∙ adjacent-is _ _ _ J;
+        layers = fun-ext (λ v. ap (λ k. layerOf (sheetOf cs adj) k v) (Q .k)
+            ∙ layer-rows cs (sheetOf cs adj) S (Q .links) v);
+        edges = parts-same (sheetOf cs adj) (Q .freqs) (Q .rules) (Q .pairs) (Q .k) (Q .n) (Q .q)
+            ∙ adjacent-is (sheetOf cs adj) _ _ (Q .links) J;
       }

@@ -10,15 +10,19 @@ use lib.Seq.{drop-append-add}
 use Rattle.sets.specs.Below.{sumTo}
 use Rattle.sets.proofs.Below.{sum-in}
 use Rattle.wire.specs.Fields.{le16, le32}
-use Rattle.sheet_rows.specs.Rows.{linkFirst, linkCount, freq, ruleA, ruleB, ruleKind, ruleCount, ruleValue, pairFirst}
-use Rattle.sheet_rows.specs.Rows.{pairSecond}
-use Rattle.sheet.specs.Sheet.{kOf, nOf, qOf, tOf, headerBytes, freqsAt, rulesAt, pairsAt, endAt, linkPart, freqPart}
+use Rattle.sheet_rows.specs.declared.Form.{Form}
+use Rattle.sheet_rows.specs.Form.{formBy, formOf}
+use Rattle.sheet_rows.specs.Rows.{headerBytes, linkBytes, linkPart, rowFirst, rowCount, linkFirst, linkCount, freq}
+use Rattle.sheet_rows.specs.Rows.{ruleA, ruleB, ruleKind, ruleCount, ruleValue, pairFirst, pairSecond}
+use Rattle.sheet_rows.proofs.Rows.{one-is}
+use Rattle.sheet.specs.Sheet.{kOf, nOf, qOf, tOf, freqsAt, rulesAt, pairsAt, endAt, freqPart}
 use Rattle.sheet.specs.Sheet.{rulePart, pairPart}
 use Rattle.sheet.specs.Refusal.{formOk, tableOk}
 use Rattle.wire.specs.Fields.{bytes16, bytes32}
 use Rattle.dimacs.specs.Lists.{joinTo, forEach}
 use Rattle.dimacs.specs.Reading.{countOf, firstOf, verticesOf}
-use Rattle.dimacs.specs.Made.{header, linkRowOf, linkRows, freqRow, freqRows, pairRow, rulePairs, ruledA, ruledB}
+use Rattle.dimacs.specs.Made.{madeForm, madeBytes, header, linkRowOf, linkRows, freqRow, freqRows, pairRow}
+use Rattle.dimacs.specs.Made.{rulePairs, ruledA, ruledB}
 use Rattle.dimacs.specs.Made.{kindOf, valueOf, pairsBefore, ruleTotal, pairTotal, ruleRow, ruleRows, rulePairRows}
 use Rattle.dimacs.specs.Made.{pairRows, sheetOf}
 use Rattle.dimacs.proofs.Lists.{join-length, join-at, each-length, each-at}
@@ -70,12 +74,12 @@ module _ (cs rest : List ℕ) where
   unfolding linkRows
   links-length = rows-length (length cs) (linkRowOf cs) 4 [] link-wide
 
-  pub first-field : (l : ℕ) → l < length cs → linkFirst (linkRows cs ++ rest) l ≡ firstOf cs l
+  pub first-field : (l : ℕ) → l < length cs → rowFirst madeBytes (linkRows cs ++ rest) l ≡ firstOf cs l
   unfolding linkRows linkRowOf
   first-field l h = half-at (length cs) (linkRowOf cs) 4 rest link-wide (4 * l) l 0 (omega arith) h (omega arith)
       ∙ word16 (firstOf cs l)
 
-  pub count-field : (l : ℕ) → l < length cs → linkCount (linkRows cs ++ rest) l ≡ countOf cs l
+  pub count-field : (l : ℕ) → l < length cs → rowCount madeBytes (linkRows cs ++ rest) l ≡ countOf cs l
   unfolding linkRows linkRowOf
   count-field l h = half-at (length cs) (linkRowOf cs) 4 rest link-wide (4 * l + 2) l 2 (omega arith) h (omega arith)
       ∙ word16 (countOf cs l)
@@ -183,12 +187,12 @@ module _ (cs : List ℕ) (adj : ℕ → ℕ → Bool) where
 
 -- the form, the offsets and the length that a sheet names
 pub record Offsets (s : List ℕ) (k n q t : ℕ) : Type 0 where
-  pub form : le32 s 0 ≡ 1
+  pub form : le32 s 0 ≡ madeForm
   pub links : le32 s 20 ≡ headerBytes
-  pub freqs : le32 s 24 ≡ freqsAt k
-  pub rules : le32 s 28 ≡ rulesAt k n
-  pub pairs : le32 s 32 ≡ pairsAt k n q
-  pub end : le32 s 36 ≡ endAt k n q t
+  pub freqs : le32 s 24 ≡ freqsAt madeBytes k
+  pub rules : le32 s 28 ≡ rulesAt madeBytes k n
+  pub pairs : le32 s 32 ≡ pairsAt madeBytes k n q
+  pub end : le32 s 36 ≡ endAt madeBytes k n q t
 
 -- the header, with other bytes after it
 module _ (k n q t : ℕ) (rest : List ℕ) where
@@ -217,11 +221,23 @@ module _ (k n q t : ℕ) (rest : List ℕ) where
   offsets = record {
     form = refl;
     links = refl;
-    freqs = word32 (freqsAt k);
-    rules = word32 (rulesAt k n);
-    pairs = word32 (pairsAt k n q);
-    end = word32 (endAt k n q t);
+    freqs = word32 (freqsAt madeBytes k);
+    rules = word32 (rulesAt madeBytes k n);
+    pairs = word32 (pairsAt madeBytes k n q);
+    end = word32 (endAt madeBytes k n q t);
   }
+
+-- the link rows of the sheet s say the counts
+pub record Counted (cs s : List ℕ) : Type 0 where
+  pub first : (l : ℕ) → l < length cs → linkFirst s l ≡ firstOf cs l
+  pub count : (l : ℕ) → l < length cs → linkCount s l ≡ countOf cs l
+
+counted : (cs rest s : List ℕ) → linkBytes s ≡ madeBytes → linkPart s ≡ linkRows cs ++ rest → Counted cs s
+unfolding linkFirst linkCount
+counted cs rest s e f = record {
+  first = λ l h. rw (e, f) (first-field cs rest l h);
+  count = λ l h. rw (e, f) (count-field cs rest l h);
+}
 
 -- the counts and the parts of the sheet
 drop-past : (x y : List ℕ) (a at n : ℕ) → length x ≡ a → at ≡ a + n → drop at (x ++ y) ≡ drop n y
@@ -233,11 +249,12 @@ module _ (cs : List ℕ) (adj : ℕ → ℕ → Bool) where
     pub n : nOf s ≡ verticesOf cs
     pub q : qOf s ≡ ruleTotal cs adj
     pub t : tOf s ≡ pairTotal cs adj
-    pub links : linkPart s ≡ linkRows cs ++ (freqRows cs ++ (ruleRows cs adj ++ pairRows cs adj))
+    pub form : formOf s ≡ formBy madeForm
+    pub links : Counted cs s
     pub freqs : freqPart s ≡ freqRows cs ++ (ruleRows cs adj ++ pairRows cs adj)
     pub rules : rulePart s ≡ ruleRows cs adj ++ pairRows cs adj
     pub pairs : pairPart s ≡ pairRows cs adj
-    pub long : length s ≡ endAt (length cs) (verticesOf cs) (ruleTotal cs adj) (pairTotal cs adj)
+    pub long : length s ≡ endAt madeBytes (length cs) (verticesOf cs) (ruleTotal cs adj) (pairTotal cs adj)
     pub offsets : Offsets s (length cs) (verticesOf cs) (ruleTotal cs adj) (pairTotal cs adj)
 
   module _ (k n q t : ℕ) (a b c d : List ℕ) (la : length a ≡ 4 * k) (lb : length b ≡ 4 * n) (lc : length c ≡ 12 * q)
@@ -248,16 +265,16 @@ module _ (cs : List ℕ) (adj : ℕ → ℕ → Bool) where
       link-bytes : drop headerBytes (header k n q t ++ (a ++ (b ++ (c ++ d)))) ≡ a ++ (b ++ (c ++ d))
       link-bytes = past-header 0
 
-      freq-bytes : drop (freqsAt k) (header k n q t ++ (a ++ (b ++ (c ++ d)))) ≡ b ++ (c ++ d)
+      freq-bytes : drop (freqsAt madeBytes k) (header k n q t ++ (a ++ (b ++ (c ++ d)))) ≡ b ++ (c ++ d)
       freq-bytes = past-header (4 * k) ∙ drop-past a (b ++ (c ++ d)) (4 * k) (4 * k) 0 la (omega arith)
 
-      rule-bytes : drop (rulesAt k n) (header k n q t ++ (a ++ (b ++ (c ++ d)))) ≡ c ++ d
-      rule-bytes = let e : rulesAt k n ≡ 40 + (4 * k + 4 * n) = omega arith in
+      rule-bytes : drop (rulesAt madeBytes k n) (header k n q t ++ (a ++ (b ++ (c ++ d)))) ≡ c ++ d
+      rule-bytes = let e : rulesAt madeBytes k n ≡ 40 + (4 * k + 4 * n) = omega arith in
           rw e (past-header (4 * k + 4 * n) ∙ drop-past a (b ++ (c ++ d)) (4 * k) (4 * k + 4 * n) (4 * n) la refl
           ∙ drop-past b (c ++ d) (4 * n) (4 * n) 0 lb (omega arith))
 
-      pair-bytes : drop (pairsAt k n q) (header k n q t ++ (a ++ (b ++ (c ++ d)))) ≡ d
-      pair-bytes = let e : pairsAt k n q ≡ 40 + (4 * k + (4 * n + 12 * q)) = omega arith in
+      pair-bytes : drop (pairsAt madeBytes k n q) (header k n q t ++ (a ++ (b ++ (c ++ d)))) ≡ d
+      pair-bytes = let e : pairsAt madeBytes k n q ≡ 40 + (4 * k + (4 * n + 12 * q)) = omega arith in
           rw e (past-header (4 * k + (4 * n + 12 * q))
           ∙ drop-past a (b ++ (c ++ d)) (4 * k) (4 * k + (4 * n + 12 * q)) (4 * n + 12 * q) la refl
           ∙ drop-past b (c ++ d) (4 * n) (4 * n + 12 * q) (12 * q) lb refl
@@ -282,19 +299,18 @@ module _ (cs : List ℕ) (adj : ℕ → ℕ → Bool) where
       let ek = k-field k n q t rest in
       let en = n-field k n q t rest in
       let eq = q-field k n q t rest in
+      let ef : formOf (header k n q t ++ rest) ≡ formBy madeForm = ap formBy (offsets k n q t rest .form) in
+      let eb : linkBytes (header k n q t ++ rest) ≡ madeBytes = ap (λ (f : Form). f .bytes) (ef ∙ one-is) in
       record {
         k = ek;
         n = en;
         q = eq;
         t = t-field k n q t rest;
-        links = link-bytes k n q t a b c d la lb lc;
-        freqs = ap (λ x. drop (freqsAt x) (header k n q t ++ rest)) ek ∙ freq-bytes k n q t a b c d la lb lc;
-        rules = ap (λ x. drop (rulesAt x (nOf (header k n q t ++ rest))) (header k n q t ++ rest)) ek
-            ∙ ap (λ y. drop (rulesAt k y) (header k n q t ++ rest)) en ∙ rule-bytes k n q t a b c d la lb lc;
-        pairs = ap (λ x. drop (pairsAt x (nOf (header k n q t ++ rest)) (qOf (header k n q t ++ rest)))
-            (header k n q t ++ rest)) ek
-            ∙ ap (λ y. drop (pairsAt k y (qOf (header k n q t ++ rest))) (header k n q t ++ rest)) en
-            ∙ ap (λ y. drop (pairsAt k n y) (header k n q t ++ rest)) eq ∙ pair-bytes k n q t a b c d la lb lc;
+        form = ef;
+        links = counted cs (b ++ (c ++ d)) (header k n q t ++ rest) eb (link-bytes k n q t a b c d la lb lc);
+        freqs = rw (eb, ek) (freq-bytes k n q t a b c d la lb lc);
+        rules = rw (eb, ek, en) (rule-bytes k n q t a b c d la lb lc);
+        pairs = rw (eb, ek, en, eq) (pair-bytes k n q t a b c d la lb lc);
         long = omega (
           arith,
           header-length k n q t [],

@@ -13,7 +13,7 @@ use Rattle.sets.specs.Below.{sumTo}
 use Rattle.sets.proofs.Tests.{and-l}
 use Rattle.sets.proofs.Lists.{length-tabulate, getD-tabulate}
 use Rattle.sheet_rows.specs.Rows.{linkCount}
-use Rattle.sheet.specs.Sheet.{kOf, nOf, linkPart, mostPairs, linksOk}
+use Rattle.sheet.specs.Sheet.{kOf, nOf, mostPairs, linksOk}
 use Rattle.sheet.specs.Refusal.{refusal, unless}
 use Rattle.sheet.proofs.Accepted.{accepted}
 use Rattle.sheet.proofs.Causes.{unless-zero}
@@ -72,28 +72,28 @@ imports text counts room e = record {
 -- the counts and the adjacency of an accepted sheet
 
 module _ (s : List ℕ) (ok : refusal s ≡ 0) where
-  links : linksOk (linkPart s) (kOf s) (nOf s) ≡ true
+  links : linksOk s (kOf s) (nOf s) ≡ true
   links = accepted s ok .links
 
   cs-length : length (countsOf s) ≡ kOf s
   unfolding countsOf
-  cs-length = length-tabulate (kOf s) (linkCount (linkPart s))
+  cs-length = length-tabulate (kOf s) (linkCount s)
 
-  cs-count : (l : ℕ) → l < kOf s → countOf (countsOf s) l ≡ linkCount (linkPart s) l
+  cs-count : (l : ℕ) → l < kOf s → countOf (countsOf s) l ≡ linkCount s l
   unfolding countsOf
-  cs-count l h = getD-tabulate (kOf s) (linkCount (linkPart s)) l 0 h
+  cs-count l h = getD-tabulate (kOf s) (linkCount s) l 0 h
 
-  cs-first : (m : ℕ) → m ≤ kOf s → firstOf (countsOf s) m ≡ sumTo m (linkCount (linkPart s))
+  cs-first : (m : ℕ) → m ≤ kOf s → firstOf (countsOf s) m ≡ sumTo m (linkCount s)
   unfolding firstOf
-  cs-first m h = sum-same m (countOf (countsOf s)) (linkCount (linkPart s)) (λ i l. cs-count i (omega arith))
+  cs-first m h = sum-same m (countOf (countsOf s)) (linkCount s) (λ i l. cs-count i (omega arith))
 
   cs-vertices : verticesOf (countsOf s) ≡ nOf s
   cs-vertices = ap (firstOf (countsOf s)) cs-length ∙ cs-first (kOf s) (omega arith)
-      ∙ link-sum (linkPart s) (kOf s) (nOf s) links
+      ∙ link-sum s (kOf s) (nOf s) links
 
   cs-layers : layer (jobOf s) ≡ layerBy (countsOf s) (length (countsOf s))
-  cs-layers = fun-ext (λ v. layer-same (linkPart s) (countsOf s) (kOf s)
-      (λ l h. link-first (linkPart s) (kOf s) (nOf s) links l h ∙ sym (cs-first l (omega arith))) v
+  cs-layers = fun-ext (λ v. layer-same s (countsOf s) (kOf s)
+      (λ l h. link-first s (kOf s) (nOf s) links l h ∙ sym (cs-first l (omega arith))) v
       ∙ ap (λ k. layerBy (countsOf s) k v) (sym cs-length))
 
   cs-small : Small (countsOf s)
@@ -102,7 +102,7 @@ module _ (s : List ℕ) (ok : refusal s ≡ 0) where
     links-few = omega (arith, h .k-small);
     freqs-few = omega (arith, h .n-small);
     some = λ i b. let c : i < kOf s = omega arith in
-        rw (cs-count i c) (link-some (linkPart s) (kOf s) (nOf s) links i c);
+        rw (cs-count i c) (link-some s (kOf s) (nOf s) links i c);
   }
 
   cs-joins : Joins (countsOf s) (edge (jobOf s))

@@ -13,7 +13,7 @@ use borrow.Author.Tests.{lt-ltb, eq-eqb, ltb-true, leb-true, eqb-true}
 use Rattle.sets.specs.Below.{sumTo}
 use Rattle.sets.specs.Sets.{Set, _∪_, just, nothing}
 use Rattle.sets.proofs.Tests.{bool, case, clash, is-false, iff, below, and-l, and-r, and-in, or-l, or-r, or-case}
-use Rattle.sheet.specs.Sheet.{mostLinks, mostFreqs}
+use Rattle.sheet_rows.specs.Form.{mostLinks, mostFreqs}
 use Rattle.dimacs.specs.Reading.{Number, noNumber, number, field, newline, space, isEmpty, countOf, firstOf}
 use Rattle.dimacs.specs.Reading.{verticesOf, layerBy, countFits, CountList, noCounts, counts, countsFrom}
 use Rattle.dimacs.specs.Reading.{Line, noLine, anEdge, isVertex, edgeTo, edgeFrom, edgeLine, clashes, Edges}

@@ -7,7 +7,7 @@ use lib.Dec.{ltb, leb, eqb}
 use lib.ListN.{length}
 use Rattle.sets.specs.Below.{tabulate}
 use Rattle.sheet_rows.specs.Rows.{linkCount}
-use Rattle.sheet.specs.Sheet.{kOf, nOf, linkPart}
+use Rattle.sheet.specs.Sheet.{kOf, nOf}
 use Rattle.sheet.specs.Refusal.{refusal, passing, unless}
 use Rattle.rules.specs.Job.{jobOf}
 use Rattle.graph.specs.Graph.{edge}
@@ -42,7 +42,7 @@ countsText cs = forEach countText cs
 
 -- the two texts of a sheet
 unfoldable pub countsOf : List ℕ → List ℕ
-countsOf s = tabulate (kOf s) (linkCount (linkPart s))
+countsOf s = tabulate (kOf s) (linkCount s)
 
 abbrev pub graphTextOf : List ℕ → List ℕ
 graphTextOf s = graphText (nOf s) (edge (jobOf s))

@@ -10,7 +10,7 @@ use Rattle.sheet.specs.Refusal.{unless}
 use Rattle.zeros.specs.Zeros.{zeros}
 use Rattle.output.specs.Output.{padded}
 use Rattle.dimacs.specs.Reading.{verticesOf, Texts, malformed, clashed, texts, textsOf}
-use Rattle.dimacs.specs.Made.{joined, ruleTotal, pairTotal, sheetOf}
+use Rattle.dimacs.specs.Made.{madeBytes, joined, ruleTotal, pairTotal, sheetOf}
 
 -- the adjacency that the texts say
 abbrev pub textGraph : List ℕ → Set → ℕ → ℕ → Bool
@@ -18,7 +18,8 @@ textGraph cs E = joined (verticesOf cs) E
 
 -- the bytes of the sheet of the texts
 unfoldable pub sheetBytes : List ℕ → Set → ℕ
-sheetBytes cs E = endAt (length cs) (verticesOf cs) (ruleTotal cs (textGraph cs E)) (pairTotal cs (textGraph cs E))
+sheetBytes cs E =
+    endAt madeBytes (length cs) (verticesOf cs) (ruleTotal cs (textGraph cs E)) (pairTotal cs (textGraph cs E))
 
 -- "15 more than 8,192 kind 3 pairs or a lent output too short"
 unfoldable pub sheetFits : List ℕ → Set → ℕ → Bool

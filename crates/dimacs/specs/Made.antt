@@ -6,7 +6,8 @@ use lib.Dec.{ltb, eqb}
 use lib.ListN.{length, getD}
 use Rattle.sets.specs.Below.{sumTo}
 use Rattle.sets.specs.Sets.{Set}
-use Rattle.sheet.specs.Sheet.{mostKHz, headerBytes, freqsAt, rulesAt, pairsAt, endAt}
+use Rattle.sheet_rows.specs.Rows.{headerBytes}
+use Rattle.sheet.specs.Sheet.{mostKHz, freqsAt, rulesAt, pairsAt, endAt}
 use Rattle.wire.specs.Fields.{bytes16, bytes32}
 use Rattle.dimacs.specs.Lists.{select, forEach, joinTo}
 use Rattle.dimacs.specs.Reading.{countOf, firstOf, verticesOf}
@@ -15,12 +16,19 @@ use Rattle.dimacs.specs.Reading.{countOf, firstOf, verticesOf}
 unfoldable pub joined : ℕ → Set → ℕ → ℕ → Bool
 joined n E u v = (ltb u n && ltb v n) && (E (u * n + v) || E (v * n + u))
 
+-- the form, and the bytes of its link rows
+abbrev pub madeForm : ℕ
+madeForm = 1
+
+abbrev pub madeBytes : ℕ
+madeBytes = 4
+
 -- the header
 unfoldable pub header : ℕ → ℕ → ℕ → ℕ → List ℕ
 header k n q t =
-    bytes32 1 ++ bytes32 k ++ bytes32 n ++ bytes32 q ++ bytes32 t ++
-    bytes32 headerBytes ++ bytes32 (freqsAt k) ++ bytes32 (rulesAt k n) ++ bytes32 (pairsAt k n q) ++
-    bytes32 (endAt k n q t)
+    bytes32 madeForm ++ bytes32 k ++ bytes32 n ++ bytes32 q ++ bytes32 t ++
+    bytes32 headerBytes ++ bytes32 (freqsAt madeBytes k) ++ bytes32 (rulesAt madeBytes k n) ++
+    bytes32 (pairsAt madeBytes k n q) ++ bytes32 (endAt madeBytes k n q t)
 
 -- "Link row: 16-bit first frequency, 16-bit count"
 unfoldable pub linkRowOf : List ℕ → ℕ → List ℕ

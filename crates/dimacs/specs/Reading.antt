@@ -7,7 +7,7 @@ use lib.Dec.{ltb, leb, eqb}
 use lib.ListN.{length, getD}
 use Rattle.sets.specs.Below.{sumTo}
 use Rattle.sets.specs.Sets.{Set, _∪_, just, nothing}
-use Rattle.sheet.specs.Sheet.{mostLinks, mostFreqs}
+use Rattle.sheet_rows.specs.Form.{mostLinks, mostFreqs}
 use Rattle.lines.specs.Lines.{ascii}
 
 -- a number and the bytes after it, or none

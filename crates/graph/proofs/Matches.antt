@@ -14,10 +14,10 @@ use Rattle.sets.specs.Sets.{whole}
 use Rattle.sets.proofs.Tests.{clash, bool, is-false, and-l, and-r, and-in, or-l, or-r}
 use Rattle.sets.proofs.Below.{all-in, all-out, all-same, any-in, first-lt, first-is, first-found}
 use Rattle.sheet_rows.specs.Rows.{linkFirst, linkCount, freq}
-use Rattle.sheet.specs.Sheet.{kOf, nOf, qOf, tOf, linkPart, freqPart, rulePart, pairPart, mostKHz, freqOk, linkFreqsOk}
-use Rattle.sheet.specs.Sheet.{freqsOk, linksOk, rulesOk, pairsOk}
-use Rattle.sheet.specs.Refusal.{formOk, linkCountOk, countsOk, offsetsOk, passing, unless, sectionCause, refusal}
-use Rattle.sheet.proofs.Accepted.{accepted}
+use Rattle.sheet.specs.Sheet.{kOf, nOf, qOf, tOf, freqPart, rulePart, pairPart, mostKHz, freqOk, linkFreqsOk}
+use Rattle.sheet.specs.Sheet.{freqsOk}
+use Rattle.sheet.specs.Refusal.{passing, refusal}
+use Rattle.sheet.proofs.Accepted.{accepted, refusal-most}
 use Rattle.rules.specs.Job.{Job}
 use Rattle.rules.specs.Layers.{layerOf, InLink}
 use Rattle.rules.specs.Pairs.{joins}
@@ -33,21 +33,21 @@ use Rattle.graph.specs.Graph.{adjacent, layer, graphOf}
 use Rattle.graph.specs.Matches.{KeepsEveryRule, IsClique, vertices, Matches, Demand2}
 use Rattle.graph.proofs.Graph.{adjacent-in, adjacent-out, layers-of}
 
-module _ {ls fs rs ps : List ℕ} {k n q t : ℕ} (P : Parts ls fs rs ps k n q t) where
+module _ {sheet fs rs ps : List ℕ} {k n q t : ℕ} (P : Parts sheet fs rs ps k n q t) where
   -- the frequencies of a link rise
-  next-rises : (l i : ℕ) → l < k → suc i < linkCount ls l
-      → freq fs (linkFirst ls l + i) < freq fs (linkFirst ls l + suc i)
+  next-rises : (l i : ℕ) → l < k → suc i < linkCount sheet l
+      → freq fs (linkFirst sheet l + i) < freq fs (linkFirst sheet l + suc i)
   unfolding freqsOk linkFreqsOk freqOk
   next-rises l i h b =
-      let g = all-out (linkCount ls l) (freqOk fs (linkFirst ls l)) (all-out k (linkFreqsOk ls fs) (P .freqs) l h)
+      let g = all-out (linkCount sheet l) (freqOk fs (linkFirst sheet l)) (all-out k (linkFreqsOk sheet fs) (P .freqs) l h)
       (suc i) b in
-      let r = and-r (ltb 0 (freq fs (linkFirst ls l + suc i)) && leb (freq fs (linkFirst ls l + suc i)) mostKHz) _ g in
-      let e : linkFirst ls l + suc i - 1 ≡ linkFirst ls l + i = omega arith in
-      ltb-true (freq fs (linkFirst ls l + i)) (freq fs (linkFirst ls l + suc i))
+      let r = and-r (ltb 0 (freq fs (linkFirst sheet l + suc i)) && leb (freq fs (linkFirst sheet l + suc i)) mostKHz) _ g in
+      let e : linkFirst sheet l + suc i - 1 ≡ linkFirst sheet l + i = omega arith in
+      ltb-true (freq fs (linkFirst sheet l + i)) (freq fs (linkFirst sheet l + suc i))
       (rw (e, ne-eqb (suc i) 0 (λ z. omega arith)) at r)
 
-  rises : (l i d : ℕ) → l < k → i + suc d < linkCount ls l
-      → freq fs (linkFirst ls l + i) < freq fs (linkFirst ls l + (i + suc d))
+  rises : (l i d : ℕ) → l < k → i + suc d < linkCount sheet l
+      → freq fs (linkFirst sheet l + i) < freq fs (linkFirst sheet l + (i + suc d))
   rises l i zero h b = let e : i + 1 ≡ suc i = omega arith in rw e (next-rises l i h (omega arith))
   rises l i (suc d) h b =
       let r = rises l i d h (omega arith) in
@@ -55,116 +55,116 @@ module _ {ls fs rs ps : List ℕ} {k n q t : ℕ} (P : Parts ls fs rs ps k n q t
       let e : i + suc (suc d) ≡ suc (i + suc d) = omega arith in
       rw e (omega arith)
 
-  place-at : (l i : ℕ) → l < k → i < linkCount ls l → placeOf fs (linkFirst ls l) (linkCount ls l)
-      (freq fs (linkFirst ls l + i)) ≡ i
+  place-at : (l i : ℕ) → l < k → i < linkCount sheet l → placeOf fs (linkFirst sheet l) (linkCount sheet l)
+      (freq fs (linkFirst sheet l + i)) ≡ i
   unfolding placeOf
-  place-at l i h b = first-found (linkCount ls l) i here b (is-false (any i here) (λ u.
+  place-at l i h b = first-found (linkCount sheet l) i here b (is-false (any i here) (λ u.
       let j = first i here in
       let g = first-lt i here u in
       let r = rises l j (i - suc j) h (omega arith) in
       let e : j + suc (i - suc j) ≡ i = omega arith in
       let s = rw e at r in
-      let z = eqb-true (freq fs (linkFirst ls l + j)) (freq fs (linkFirst ls l + i)) (first-is i here u) in
+      let z = eqb-true (freq fs (linkFirst sheet l + j)) (freq fs (linkFirst sheet l + i)) (first-is i here u) in
       omega arith))
-      (eq-eqb (freq fs (linkFirst ls l + i)) (freq fs (linkFirst ls l + i)) refl)
+      (eq-eqb (freq fs (linkFirst sheet l + i)) (freq fs (linkFirst sheet l + i)) refl)
     where
       here : ℕ → Bool
-      here m = eqb (freq fs (linkFirst ls l + m)) (freq fs (linkFirst ls l + i))
+      here m = eqb (freq fs (linkFirst sheet l + m)) (freq fs (linkFirst sheet l + i))
 
   -- the vertex of a vertex's frequency is that vertex
-  vertex-back : (l v : ℕ) → l < k → InLink ls l v → (vertexOf ls fs l (freq fs v) ≡ v)
-      × (hasFreq ls fs l (freq fs v) ≡ true)
+  vertex-back : (l v : ℕ) → l < k → InLink sheet l v → (vertexOf sheet fs l (freq fs v) ≡ v)
+      × (hasFreq sheet fs l (freq fs v) ≡ true)
   unfolding vertexOf hasFreq
   vertex-back l v h i =
-      let d = v - linkFirst ls l in
+      let d = v - linkFirst sheet l in
       let a = i .low in
       let b = i .high in
-      let e : linkFirst ls l + d ≡ v = omega arith in
-      let p : placeOf fs (linkFirst ls l) (linkCount ls l) (freq fs v) ≡ d = rw e at (place-at l d h (omega arith)) in
-      (omega arith, any-in (linkCount ls l) _ d (omega arith) (rw e (eq-eqb (freq fs v) (freq fs v) refl)))
+      let e : linkFirst sheet l + d ≡ v = omega arith in
+      let p : placeOf fs (linkFirst sheet l) (linkCount sheet l) (freq fs v) ≡ d = rw e at (place-at l d h (omega arith)) in
+      (omega arith, any-in (linkCount sheet l) _ d (omega arith) (rw e (eq-eqb (freq fs v) (freq fs v) refl)))
 
   -- the frequency of a frequency's vertex is that frequency
-  freq-back : (l x : ℕ) → hasFreq ls fs l x ≡ true → freq fs (vertexOf ls fs l x) ≡ x
+  freq-back : (l x : ℕ) → hasFreq sheet fs l x ≡ true → freq fs (vertexOf sheet fs l x) ≡ x
   unfolding vertexOf placeOf hasFreq
-  freq-back l x h = eqb-true _ x (first-is (linkCount ls l) (λ i. eqb (freq fs (linkFirst ls l + i)) x) h)
+  freq-back l x h = eqb-true _ x (first-is (linkCount sheet l) (λ i. eqb (freq fs (linkFirst sheet l + i)) x) h)
 
   abbrev G : Graph
-  G = record { n = n; k = k; cls = layerOf ls k; adj = adjacent ls fs rs ps k n q }
+  G = record { n = n; k = k; cls = layerOf sheet k; adj = adjacent sheet fs rs ps k n q }
 
   -- a clique listed by layer: its assignment keeps every rule, and its vertices are those of the assignment
   module _ (c : ℕ → ℕ) (C : Clique G 0 (whole n) c) where
-    in-link : (l : ℕ) → l < k → InLink ls l (c l)
-    in-link l h = let a = C .at l (omega arith) h in let i = layer-in ls k n (P .links) (c l) (a .lt) .1 in
+    in-link : (l : ℕ) → l < k → InLink sheet l (c l)
+    in-link l h = let a = C .at l (omega arith) h in let i = layer-in sheet k n (P .links) (c l) (a .lt) .1 in
         rw (a .cl) at i
 
-    pub there-back : (l : ℕ) → l < k → vertexOf ls fs l (freq fs (c l)) ≡ c l
+    pub there-back : (l : ℕ) → l < k → vertexOf sheet fs l (freq fs (c l)) ≡ c l
     there-back l h = vertex-back l (c l) h (in-link l h) .0
 
-    clique-pair : (a b : ℕ) → a < k → b < k → (a ≡ b → ⊥) → pairKept ls fs rs ps q (λ l. freq fs (c l)) a b ≡ true
+    clique-pair : (a b : ℕ) → a < k → b < k → (a ≡ b → ⊥) → pairKept sheet fs rs ps q (λ l. freq fs (c l)) a b ≡ true
     unfolding pairKept
     clique-pair a b x y ne =
-        let g = adjacent-out ls fs rs ps k n q (c a) (c b)
+        let g = adjacent-out sheet fs rs ps k n q (c a) (c b)
         (C .joined a b (omega arith) x (omega arith) y ne) .allowed in
         rw (there-back a x, there-back b y) (rw (C .at a (omega arith) x .cl, C .at b (omega arith) y .cl) at g)
 
-    pub clique-keeps : keeps ls fs rs ps k q (λ l. freq fs (c l)) ≡ true
+    pub clique-keeps : keeps sheet fs rs ps k q (λ l. freq fs (c l)) ≡ true
     unfolding keeps inLists linkKept
     clique-keeps = and-in (all-in k _ (λ l h. vertex-back l (c l) h (in-link l h) .1))
         (all-in k _ (λ a x. all-in k _ (λ b y. bool (leb b a)
-        (λ e. or-l (pairKept ls fs rs ps q (λ l. freq fs (c l)) a b) e)
+        (λ e. or-l (pairKept sheet fs rs ps q (λ l. freq fs (c l)) a b) e)
         (λ e. or-r (leb b a) (clique-pair a b x y (λ i. clash (leb b a) (le-leb b a (omega arith)) e))))))
 
   -- an assignment that keeps every rule: its vertices are a clique listed by layer, and its frequencies are those of
   -- the vertices
-  module _ (f : ℕ → ℕ) (K : keeps ls fs rs ps k q f ≡ true) where
+  module _ (f : ℕ → ℕ) (K : keeps sheet fs rs ps k q f ≡ true) where
     abbrev vs : ℕ → ℕ
-    vs l = vertexOf ls fs l (f l)
+    vs l = vertexOf sheet fs l (f l)
 
-    kept-list : (l : ℕ) → l < k → hasFreq ls fs l (f l) ≡ true
+    kept-list : (l : ℕ) → l < k → hasFreq sheet fs l (f l) ≡ true
     unfolding keeps
-    kept-list l h = listed-at ls fs k f l (and-l (all k (inLists ls fs f)) _ K) h
+    kept-list l h = listed-at sheet fs k f l (and-l (all k (inLists sheet fs f)) _ K) h
 
-    kept-pair : (a b : ℕ) → a < b → b < k → joins ls fs rs ps q a b (vs a) (vs b) ≡ true
+    kept-pair : (a b : ℕ) → a < b → b < k → joins sheet fs rs ps q a b (vs a) (vs b) ≡ true
     unfolding keeps linkKept pairKept
     kept-pair a b l h =
-        let x = all-out k (linkKept ls fs rs ps k q f) (and-r (all k (inLists ls fs f)) _ K) a (omega arith) in
-        let y = all-out k (λ b. leb b a || pairKept ls fs rs ps q f a b) x b h in
+        let x = all-out k (linkKept sheet fs rs ps k q f) (and-r (all k (inLists sheet fs f)) _ K) a (omega arith) in
+        let y = all-out k (λ b. leb b a || pairKept sheet fs rs ps q f a b) x b h in
         rw (lt-leb b a l) at y
 
     pub back-there : (l : ℕ) → l < k → freq fs (vs l) ≡ f l
     back-there l h = freq-back l (f l) (kept-list l h)
 
-    kept-layer : (l : ℕ) → l < k → layerOf ls k (vs l) ≡ l
-    kept-layer l h = layer-of ls k n (P .links) l (vs l) h (vertex-in ls fs l (f l) (kept-list l h))
+    kept-layer : (l : ℕ) → l < k → layerOf sheet k (vs l) ≡ l
+    kept-layer l h = layer-of sheet k n (P .links) l (vs l) h (vertex-in sheet fs l (f l) (kept-list l h))
 
     kept-lt : (l : ℕ) → l < k → vs l < n
-    kept-lt l h = in-link-lt ls k n (P .links) l (vs l) h (vertex-in ls fs l (f l) (kept-list l h))
+    kept-lt l h = in-link-lt sheet k n (P .links) l (vs l) h (vertex-in sheet fs l (f l) (kept-list l h))
 
-    kept-joins : (i j : ℕ) → i < k → j < k → (i ≡ j → ⊥) → Dec (i < j) → joins ls fs rs ps q i j (vs i) (vs j) ≡ true
+    kept-joins : (i j : ℕ) → i < k → j < k → (i ≡ j → ⊥) → Dec (i < j) → joins sheet fs rs ps q i j (vs i) (vs j) ≡ true
     kept-joins i j h g ne (yes l) = kept-pair i j l g
-    kept-joins i j h g ne (no l) = joins-turned ls fs rs ps q i j (vs i) (vs j) ne ∙ kept-pair j i (omega (arith, ne)) h
+    kept-joins i j h g ne (no l) = joins-turned sheet fs rs ps q i j (vs i) (vs j) ne ∙ kept-pair j i (omega (arith, ne)) h
 
     pub keeps-clique : Clique G 0 (whole n) vs
     unfolding whole
     keeps-clique = record {
       at = λ l a h. record { lt = kept-lt l h; live = lt-ltb (vs l) n (kept-lt l h); cl = kept-layer l h };
-      joined = λ i j a h b g ne. adjacent-in ls fs rs ps k n q (vs i) (vs j) (kept-lt i h) (kept-lt j g)
+      joined = λ i j a h b g ne. adjacent-in sheet fs rs ps k n q (vs i) (vs j) (kept-lt i h) (kept-lt j g)
           (λ e. ne (sym (kept-layer i h) ∙ e ∙ kept-layer j g))
           (rw (kept-layer i h, kept-layer j g) (kept-joins i j h g ne (decLt i j)));
     }
 
   -- only the first k entries of an assignment are read
-  pub keeps-same : (f g : ℕ → ℕ) → ((l : ℕ) → l < k → f l ≡ g l) → keeps ls fs rs ps k q f ≡ keeps ls fs rs ps k q g
+  pub keeps-same : (f g : ℕ → ℕ) → ((l : ℕ) → l < k → f l ≡ g l) → keeps sheet fs rs ps k q f ≡ keeps sheet fs rs ps k q g
   unfolding keeps inLists linkKept pairKept
   keeps-same f g h = ap₂ (λ a b. a && b)
-      (all-same k _ _ (λ l i. ap (hasFreq ls fs l) (h l i)))
+      (all-same k _ _ (λ l i. ap (hasFreq sheet fs l) (h l i)))
       (all-same k _ _ (λ a i. all-same k _ _ (λ b l. rw (h a i, h b l))))
 
 module _ (job : Job) (ok : refusal (job .sheet) ≡ 0) where
   abbrev s : List ℕ
   s = job .sheet
 
-  P : Parts (linkPart s) (freqPart s) (rulePart s) (pairPart s) (kOf s) (nOf s) (qOf s) (tOf s)
+  P : Parts s (freqPart s) (rulePart s) (pairPart s) (kOf s) (nOf s) (qOf s) (tOf s)
   P = parts-of s (accepted s ok)
 
   -- the vertices of a rule-keeping assignment, listed by layer
@@ -213,33 +213,11 @@ module _ (job : Job) (ok : refusal (job .sheet) ≡ 0) where
 
 -- the check
 
-passing-small : (b : Bool) (cause : ℕ) (rest : Unit {0} → ℕ) → cause ≤ 8 → rest tt ≤ 8 → passing b cause rest ≤ 8
-passing-small true cause rest c r = r
-passing-small false cause rest c r = c
-
-unless-small : (b : Bool) → unless b 8 ≤ 8
-unfolding unless
-unless-small true = omega arith
-unless-small false = omega arith
-
--- a sheet's refusal is none of the check's own answers
-refusal-small : (s : List ℕ) → refusal s ≤ 8
-unfolding refusal sectionCause
-refusal-small s =
-    passing-small (formOk s) 1 _ (omega arith)
-    (passing-small (linkCountOk s) 2 _ (omega arith)
-    (passing-small (countsOk s) 3 _ (omega arith)
-    (passing-small (offsetsOk s) 4 _ (omega arith)
-    (passing-small (linksOk (linkPart s) (kOf s) (nOf s)) 5 _ (omega arith)
-    (passing-small (freqsOk (linkPart s) (freqPart s) (kOf s)) 6 _ (omega arith)
-    (passing-small (rulesOk (rulePart s) (kOf s) (qOf s) (tOf s)) 7 _ (omega arith)
-    (unless-small (pairsOk (linkPart s) (rulePart s) (pairPart s) (qOf s)))))))))
-
 yes-no : (b : Bool) → yesNo b ≡ 100 → b ≡ true
 yes-no true h = refl
 yes-no false h = absurd (omega arith)
 
-check-only : (a b x : Bool) (r : ℕ) → r ≤ 8 → (passing a r λ _. passing b 10 λ _. yesNo x) ≡ 100
+check-only : (a b x : Bool) (r : ℕ) → r ≤ 16 → (passing a r λ _. passing b 10 λ _. yesNo x) ≡ 100
     → (a ≡ true) × (b ≡ true) × (x ≡ true)
 check-only true true x r l h = (refl, refl, yes-no x h)
 check-only true false x r l h = absurd (omega arith)
@@ -254,7 +232,7 @@ module _ (job : Job) (cells : List ℕ) where
   says h =
       let a = eqb (refusal sheet) 0 in
       let b = leb (kOf sheet) (length cells) in
-      let o = check-only a b (keepsJob job (cellsOf cells)) (refusal sheet) (refusal-small sheet) h in
+      let o = check-only a b (keepsJob job (cellsOf cells)) (refusal sheet) (refusal-most sheet) h in
       (eqb-true (refusal sheet) 0 (o .0), leb-true (kOf sheet) (length cells) (o .1), o .2)
 
   told : refusal sheet ≡ 0 → kOf sheet ≤ length cells → KeepsEveryRule job (cellsOf cells) → checked job cells ≡ 100

@@ -11,12 +11,12 @@ use borrow.Author.Tests.{eqb-true, ltb-true, eq-eqb, le-leb}
 use Rattle.sets.specs.Sets.{_∩_, _∖_}
 use Rattle.sets.proofs.Tests.{clash, bool, is-false, not-in, and-l, and-r}
 use Rattle.sets.proofs.Below.{all-out}
-use Rattle.sheet_rows.specs.Rows.{linkFirst, linkCount, freq, ruleA, ruleB, ruleKind, ruleCount, ruleValue, pairFirst}
-use Rattle.sheet_rows.specs.Rows.{pairSecond}
+use Rattle.sheet_rows.specs.Rows.{linkFirst, linkCount, linkWidth, freq, ruleA, ruleB}
+use Rattle.sheet_rows.specs.Rows.{ruleKind, ruleCount, ruleValue, pairFirst, pairSecond}
 use Rattle.sheet.specs.Sheet.{listed, pairOk, rulePairsOk, pairsOk}
 use Rattle.sheet.proofs.Links.{link-in}
 use Rattle.sheet.proofs.Rules.{rule-in}
-use Rattle.rules.specs.Pairs.{distance, listsPair, agree, differ, allows}
+use Rattle.rules.specs.Pairs.{distance, listsPair, agree, ruleWidths, differ, allows}
 use Rattle.rules.specs.Parts.{Parts}
 use Rattle.rules.proofs.Laws.{rule-links, agree-plain, agree-equal}
 use Rattle.graph.specs.declared.Side.{Side}
@@ -47,9 +47,9 @@ lists-b : (ps : List ℕ) (first x base m v : ℕ) → first ≤ v
 unfolding partners
 lists-b ps first x base m v h = rw (le-leb first v h)
 
-agree-three : (kind value d : ℕ) (l : Bool) → kind ≡ 3 → agree kind value d l ≡ l
+agree-three : (kind value w d : ℕ) (l : Bool) → kind ≡ 3 → agree kind value w d l ≡ l
 unfolding agree
-agree-three kind value d l e = rw e
+agree-three kind value w d l e = rw e
 
 not-not : (b : Bool) → not (not b) ≡ b
 not-not true = refl
@@ -65,62 +65,68 @@ module _ (fs ps : List ℕ) (s : Side) (u v : ℕ) where
 
   allowed-other : eqb (s .kind) 3 ≡ false
       → allowed fs ps s u v ≡ stretch (s .first) (s .end) v
-      && agree (s .kind) (s .value) (distance (freq fs u) (freq fs v)) false
+      && agree (s .kind) (s .value) (s .widths) (distance (freq fs u) (freq fs v)) false
   unfolding allowed _∖_ clashing
-  allowed-other e = rw (e, not-not (agree (s .kind) (s .value) (distance (freq fs u) (freq fs v)) false))
+  allowed-other e = rw (e, not-not (agree (s .kind) (s .value) (s .widths) (distance (freq fs u) (freq fs v)) false))
 
-module _ (ls fs rs ps : List ℕ) (j u v : ℕ) where
+module _ (sheet fs rs ps : List ℕ) (j u v : ℕ) where
   -- rule row j from its link a, u being of a, and from its link b, u being of b
-  pub allowed-a : allowed fs ps (sideOf ls rs j false (ruleA rs j) (ruleB rs j)) u v
-      ≡ stretch (linkFirst ls (ruleB rs j)) (linkFirst ls (ruleB rs j) + linkCount ls (ruleB rs j)) v
-      && allows ls fs rs ps j u v
-  unfolding allows
+  pub allowed-a : allowed fs ps (sideOf sheet rs j false (ruleA rs j) (ruleB rs j)) u v
+      ≡ stretch (linkFirst sheet (ruleB rs j)) (linkFirst sheet (ruleB rs j) + linkCount sheet (ruleB rs j)) v
+      && allows sheet fs rs ps j u v
+  unfolding allows ruleWidths
   allowed-a =
-      let first = linkFirst ls (ruleB rs j) in
-      let end = first + linkCount ls (ruleB rs j) in
+      let first = linkFirst sheet (ruleB rs j) in
+      let end = first + linkCount sheet (ruleB rs j) in
       let d = distance (freq fs u) (freq fs v) in
-      let s = sideOf ls rs j false (ruleA rs j) (ruleB rs j) in
+      let s = sideOf sheet rs j false (ruleA rs j) (ruleB rs j) in
       bool (eqb (ruleKind rs j) 3)
       (λ e. allowed-three fs ps s u v e ∙ in-stretch first end v _ _ (λ l h.
-      lists-a ps first (u - linkFirst ls (ruleA rs j)) (ruleValue rs j) (ruleCount rs j) v l
-      ∙ sym (agree-three (ruleKind rs j) (ruleValue rs j) d _ (eqb-true _ _ e))))
+      lists-a ps first (u - linkFirst sheet (ruleA rs j)) (ruleValue rs j) (ruleCount rs j) v l
+      ∙ sym (agree-three (ruleKind rs j) (ruleValue rs j) _ d _ (eqb-true _ _ e))))
       (λ e. allowed-other fs ps s u v e ∙ in-stretch first end v _ _ (λ l h.
-      agree-plain (ruleKind rs j) (ruleValue rs j) d _ _ (λ q. clash (eqb (ruleKind rs j) 3) (eq-eqb _ _ q) e)))
+      agree-plain (ruleKind rs j) (ruleValue rs j) _ d _ _ (λ q. clash (eqb (ruleKind rs j) 3) (eq-eqb _ _ q) e)))
 
-  pub allowed-b : allowed fs ps (sideOf ls rs j true (ruleB rs j) (ruleA rs j)) u v
-      ≡ stretch (linkFirst ls (ruleA rs j)) (linkFirst ls (ruleA rs j) + linkCount ls (ruleA rs j)) v
-      && allows ls fs rs ps j v u
+  widths-turned : linkWidth sheet (ruleB rs j) + linkWidth sheet (ruleA rs j) ≡ ruleWidths sheet rs j
+  unfolding ruleWidths
+  widths-turned = omega arith
+
+  pub allowed-b : allowed fs ps (sideOf sheet rs j true (ruleB rs j) (ruleA rs j)) u v
+      ≡ stretch (linkFirst sheet (ruleA rs j)) (linkFirst sheet (ruleA rs j) + linkCount sheet (ruleA rs j)) v
+      && allows sheet fs rs ps j v u
   unfolding allows
   allowed-b =
-      let first = linkFirst ls (ruleA rs j) in
-      let end = first + linkCount ls (ruleA rs j) in
+      let first = linkFirst sheet (ruleA rs j) in
+      let end = first + linkCount sheet (ruleA rs j) in
       let d = distance (freq fs v) (freq fs u) in
-      let s = sideOf ls rs j true (ruleB rs j) (ruleA rs j) in
+      let s = sideOf sheet rs j true (ruleB rs j) (ruleA rs j) in
       bool (eqb (ruleKind rs j) 3)
       (λ e. allowed-three fs ps s u v e ∙ in-stretch first end v _ _ (λ l h.
-      lists-b ps first (u - linkFirst ls (ruleB rs j)) (ruleValue rs j) (ruleCount rs j) v l
-      ∙ sym (agree-three (ruleKind rs j) (ruleValue rs j) d _ (eqb-true _ _ e))))
+      lists-b ps first (u - linkFirst sheet (ruleB rs j)) (ruleValue rs j) (ruleCount rs j) v l
+      ∙ sym (agree-three (ruleKind rs j) (ruleValue rs j) _ d _ (eqb-true _ _ e))))
       (λ e. allowed-other fs ps s u v e ∙ in-stretch first end v _ _ (λ l h.
-      ap (λ (x : ℕ). agree (ruleKind rs j) (ruleValue rs j) x false) (distance-turned (freq fs u) (freq fs v))
-      ∙ agree-plain (ruleKind rs j) (ruleValue rs j) d _ _ (λ q. clash (eqb (ruleKind rs j) 3) (eq-eqb _ _ q) e)))
+      ap (λ (x : ℕ). agree (ruleKind rs j) (ruleValue rs j) (s .widths) x false)
+      (distance-turned (freq fs u) (freq fs v))
+      ∙ ap (λ (w : ℕ). agree (ruleKind rs j) (ruleValue rs j) w d false) widths-turned
+      ∙ agree-plain (ruleKind rs j) (ruleValue rs j) _ d _ _ (λ q. clash (eqb (ruleKind rs j) 3) (eq-eqb _ _ q) e)))
 
-module _ {ls fs rs ps : List ℕ} {k n q t : ℕ} (P : Parts ls fs rs ps k n q t) (j : ℕ) (b : j < q) where
+module _ {sheet fs rs ps : List ℕ} {k n q t : ℕ} (P : Parts sheet fs rs ps k n q t) (j : ℕ) (b : j < q) where
   -- both sides of the rule meet what the strikes ask
   listed-is : ruleKind rs j ≡ 3 → listed rs j ≡ ruleCount rs j
   unfolding listed
   listed-is h = rw h
 
   pair-places : ruleKind rs j ≡ 3 → (i : ℕ) → i < ruleCount rs j → (4 * (ruleValue rs j + i) + 4 ≤ length ps) ×
-      (pairFirst ps (ruleValue rs j + i) < linkCount ls (ruleA rs j))
-      × (pairSecond ps (ruleValue rs j + i) < linkCount ls (ruleB rs j))
+      (pairFirst ps (ruleValue rs j + i) < linkCount sheet (ruleA rs j))
+      × (pairSecond ps (ruleValue rs j + i) < linkCount sheet (ruleB rs j))
   unfolding pairsOk rulePairsOk pairOk
   pair-places e i l =
       let x = listed-is e in
       let f = rule-in rs k q t j (P .rules) b .pairs (omega arith) in
-      let m = linkCount ls (ruleA rs j) in
-      let o = linkCount ls (ruleB rs j) in
+      let m = linkCount sheet (ruleA rs j) in
+      let o = linkCount sheet (ruleB rs j) in
       let y = ruleValue rs j + i in
-      let g = all-out (listed rs j) (pairOk ps (ruleValue rs j) m o) (all-out q (rulePairsOk ls rs ps) (P .pairs) j b)
+      let g = all-out (listed rs j) (pairOk ps (ruleValue rs j) m o) (all-out q (rulePairsOk sheet rs ps) (P .pairs) j b)
       i (omega arith) in
       let z = and-l (ltb (pairFirst ps y) m && ltb (pairSecond ps y) o) _ g in (
         omega (arith, P .pair-rows),
@@ -129,33 +135,33 @@ module _ {ls fs rs ps : List ℕ} {k n q t : ℕ} (P : Parts ls fs rs ps k n q t
       )
 
   -- what a rule of kind 1 or 2 allows differs in frequency
-  pub allows-differ : (u v : ℕ) → (ruleKind rs j ≡ 3 → ⊥) → allows ls fs rs ps j u v ≡ true → differ fs u v ≡ true
+  pub allows-differ : (u v : ℕ) → (ruleKind rs j ≡ 3 → ⊥) → allows sheet fs rs ps j u v ≡ true → differ fs u v ≡ true
   unfolding allows differ
   allows-differ u v ne h = not-in (is-false (eqb (freq fs u) (freq fs v)) (λ e.
       let x = eqb-true (freq fs u) (freq fs v) e in
       let z = rw (
-        agree-plain (ruleKind rs j) (ruleValue rs j) (distance (freq fs u) (freq fs v)) _ false ne,
+        agree-plain (ruleKind rs j) (ruleValue rs j) _ (distance (freq fs u) (freq fs v)) _ false ne,
         x,
         distance-same (freq fs v),
       ) at h in
-      clash _ z (agree-equal (ruleKind rs j) (ruleValue rs j) ne (rule-in rs k q t j (P .rules) b .plain ne))))
+      clash _ z (agree-equal (ruleKind rs j) (ruleValue rs j) _ ne (rule-in rs k q t j (P .rules) b .plain ne))))
 
-  pub fits-a : SideFits fs ps n (sideOf ls rs j false (ruleA rs j) (ruleB rs j))
+  pub fits-a : SideFits fs ps n (sideOf sheet rs j false (ruleA rs j) (ruleB rs j))
   unfolding otherPlace
   fits-a = let o = rule-links P j b in record {
     freqs = P .freq-rows;
-    own = link-in ls k n (P .links) (ruleA rs j) (omega arith);
+    own = link-in sheet k n (P .links) (ruleA rs j) (omega arith);
     order = omega arith;
-    other = link-in ls k n (P .links) (ruleB rs j) (o .1);
+    other = link-in sheet k n (P .links) (ruleB rs j) (o .1);
     pairs = λ e i l. let p = pair-places e i l in (p .0, omega arith);
   }
 
-  pub fits-b : SideFits fs ps n (sideOf ls rs j true (ruleB rs j) (ruleA rs j))
+  pub fits-b : SideFits fs ps n (sideOf sheet rs j true (ruleB rs j) (ruleA rs j))
   unfolding otherPlace
   fits-b = let o = rule-links P j b in record {
     freqs = P .freq-rows;
-    own = link-in ls k n (P .links) (ruleB rs j) (o .1);
+    own = link-in sheet k n (P .links) (ruleB rs j) (o .1);
     order = omega arith;
-    other = link-in ls k n (P .links) (ruleA rs j) (omega arith);
+    other = link-in sheet k n (P .links) (ruleA rs j) (omega arith);
     pairs = λ e i l. let p = pair-places e i l in (p .0, omega arith);
   }

@@ -161,7 +161,7 @@ ruled-listed fs ps s u S e f = rw (eq-eqb (s .kind) 3 e)
     (partners-in ps (s .turned) (s .first) (u - s .from) (s .value) (s .count) (s .end) (λ i h. f i h .1))))
 
 pub ruled-plain : (fs ps : List ℕ) (s : Side) (u : ℕ) (S : Set) → (s .kind ≡ 3 → ⊥) → allowed fs ps s u ⊆ S
-    → S ∖ (stretch (s .first) (s .end) ∩ clashing fs (s .kind) (s .value) (freq fs u)) ≡ underRule fs ps s u S
+    → S ∖ (stretch (s .first) (s .end) ∩ clashing fs s (freq fs u)) ≡ underRule fs ps s u S
 unfolding allowed
 ruled-plain fs ps s u S e f =
     let g = rw (ne-eqb (s .kind) 3 e) at f in

@@ -4,7 +4,7 @@ use mathlib.Core.Bool.{Bool, not, _&&_}
 use mathlib.Core.List.{List}
 use Prim.Native.Nat.{ℕ}
 use lib.Dec.{ltb, eqb}
-use Rattle.sheet.specs.Sheet.{kOf, nOf, qOf, linkPart, freqPart, rulePart, pairPart}
+use Rattle.sheet.specs.Sheet.{kOf, nOf, qOf, freqPart, rulePart, pairPart}
 use Rattle.rules.specs.Job.{Job}
 use Rattle.rules.specs.Layers.{layerOf}
 use Rattle.rules.specs.Pairs.{joins}
@@ -12,22 +12,22 @@ use Rattle.cliques.specs.Graph.{Graph}
 
 -- u and v are among the n vertices, "their links differ"
 unfoldable pub linksDiffer : List ℕ → ℕ → ℕ → ℕ → ℕ → Bool
-linksDiffer ls k n u v = (ltb u n && ltb v n) && not (eqb (layerOf ls k u) (layerOf ls k v))
+linksDiffer sheet k n u v = (ltb u n && ltb v n) && not (eqb (layerOf sheet k u) (layerOf sheet k v))
 
 -- "Two vertices are adjacent when their links differ and the rule of the links, if any, allows the pair", which is what
 -- the pair test says; over the sheet's sections, with k links, n vertices and q rules
 unfoldable pub adjacent : List ℕ → List ℕ → List ℕ → List ℕ → ℕ → ℕ → ℕ → ℕ → ℕ → Bool
-adjacent ls fs rs ps k n q u v =
-    linksDiffer ls k n u v && joins ls fs rs ps q (layerOf ls k u) (layerOf ls k v) u v
+adjacent sheet fs rs ps k n q u v =
+    linksDiffer sheet k n u v && joins sheet fs rs ps q (layerOf sheet k u) (layerOf sheet k v) u v
 
 -- the layer of a vertex, and adjacency, of a job
 abbrev pub layer : Job → ℕ → ℕ
-layer job v = layerOf (linkPart (job .sheet)) (kOf (job .sheet)) v
+layer job v = layerOf (job .sheet) (kOf (job .sheet)) v
 
 abbrev pub edge : Job → ℕ → ℕ → Bool
 edge job u v =
     let s = job .sheet in
-    adjacent (linkPart s) (freqPart s) (rulePart s) (pairPart s) (kOf s) (nOf s) (qOf s) u v
+    adjacent s (freqPart s) (rulePart s) (pairPart s) (kOf s) (nOf s) (qOf s) u v
 
 -- the job's graph, with a class for each vertex
 abbrev pub graphOf : Job → (ℕ → ℕ) → Graph

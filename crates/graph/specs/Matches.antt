@@ -6,7 +6,7 @@ use Prim.Native.Nat.{ℕ, _≤_, _<_}
 use lib.ListN.{length}
 use Rattle.sets.specs.Sets.{whole}
 use Rattle.sheet_rows.specs.Rows.{freq}
-use Rattle.sheet.specs.Sheet.{kOf, nOf, linkPart, freqPart}
+use Rattle.sheet.specs.Sheet.{kOf, nOf, freqPart}
 use Rattle.sheet.specs.Refusal.{refusal}
 use Rattle.rules.specs.Job.{Job}
 use Rattle.rules.specs.Plans.{vertexOf, cellsOf, keepsJob, checked}
@@ -28,7 +28,7 @@ assignment job c l = freq (freqPart (job .sheet)) (byLayer (kOf (job .sheet)) (l
 
 -- the k-clique of an assignment: for each link the vertex of its frequency
 abbrev pub vertices : Job → (ℕ → ℕ) → ℕ → ℕ
-vertices job f l = vertexOf (linkPart (job .sheet)) (freqPart (job .sheet)) l (f l)
+vertices job f l = vertexOf (job .sheet) (freqPart (job .sheet)) l (f l)
 
 -- "its k-cliques and the rule-keeping assignments match one to one": the two maps, each the other's inverse. A k-clique
 -- is the set of its vertices: the clique of c's assignment has each vertex of c, in the layer of that vertex

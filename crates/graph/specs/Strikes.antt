@@ -6,8 +6,8 @@ use Prim.Native.Nat.{ℕ, _+_, _-_, _*_, _≤_, _<_}
 use lib.Dec.{ltb, leb, eqb}
 use lib.ListN.{length}
 use Rattle.sets.specs.Sets.{Set, _⊆_, _∩_, _∪_, _∖_}
-use Rattle.sheet_rows.specs.Rows.{freqBytes, pairBytes, linkFirst, linkCount, freq, ruleKind, ruleCount, ruleValue}
-use Rattle.sheet_rows.specs.Rows.{pairFirst, pairSecond}
+use Rattle.sheet_rows.specs.Rows.{freqBytes, pairBytes, linkFirst, linkCount, linkWidth, freq}
+use Rattle.sheet_rows.specs.Rows.{ruleKind, ruleCount, ruleValue, pairFirst, pairSecond}
 use Rattle.rules.specs.Pairs.{distance, samePair, listsPair, agree}
 use Rattle.rows.specs.Rows.{rowAt, Outside}
 use Rattle.graph.specs.declared.Side.{Side}
@@ -18,15 +18,16 @@ stretch a b v = leb a v && ltb v b
 
 -- rule row j seen from its link a, whose rows it changes, to its other link b; turned where a is the higher of the two
 abbrev pub sideOf : List ℕ → List ℕ → ℕ → Bool → ℕ → ℕ → Side
-sideOf ls rs j turned a b = record {
+sideOf sheet rs j turned a b = record {
   kind = ruleKind rs j;
   value = ruleValue rs j;
   count = ruleCount rs j;
+  widths = linkWidth sheet a + linkWidth sheet b;
   turned = turned;
-  from = linkFirst ls a;
-  upto = linkFirst ls a + linkCount ls a;
-  first = linkFirst ls b;
-  end = linkFirst ls b + linkCount ls b;
+  from = linkFirst sheet a;
+  upto = linkFirst sheet a + linkCount sheet a;
+  first = linkFirst sheet b;
+  end = linkFirst sheet b + linkCount sheet b;
 }
 
 -- "positions (from 0) in the lists of a and of b": those of pair row i in the list of the changed rows' link, and in
@@ -47,17 +48,16 @@ partners ps turned first x base m v =
 unfoldable pub partner : List ℕ → Bool → ℕ → ℕ → ℕ → Set
 partner ps turned first x i v = leb first v && cond turned (samePair ps (v - first) x i) (samePair ps x (v - first) i)
 
--- "Kind 1: the frequencies differ by at least value. Kind 2: they differ by just value": the vertices that such a rule
--- does not allow with the frequency x
-unfoldable pub clashing : List ℕ → ℕ → ℕ → ℕ → Set
-clashing fs kind value x v = not (agree kind value (distance x (freq fs v)) false)
+-- kinds 1 and 2: the vertices that such a rule does not allow with the frequency x
+unfoldable pub clashing : List ℕ → Side → ℕ → Set
+clashing fs s x v = not (agree (s .kind) (s .value) (s .widths) (distance x (freq fs v)) false)
 
 -- the vertices of the other link that the rule allows with u
 unfoldable pub allowed : List ℕ → List ℕ → Side → ℕ → Set
 allowed fs ps s u =
     cond (eqb (s .kind) 3)
     (stretch (s .first) (s .end) ∩ partners ps (s .turned) (s .first) (u - s .from) (s .value) (s .count))
-    (stretch (s .first) (s .end) ∖ clashing fs (s .kind) (s .value) (freq fs u))
+    (stretch (s .first) (s .end) ∖ clashing fs s (freq fs u))
 
 -- row u under the rule: of the other link just these
 abbrev pub underRule : List ℕ → List ℕ → Side → ℕ → Set → Set

@@ -5,7 +5,7 @@ ghost use mathlib.Core.Path.{_≡_};
 ghost use lib.ListN.{length};
 ghost use Rattle.sets.specs.Sets.{_∩_, _∖_, just};
 ghost use Rattle.sheet_rows.specs.Rows.{HasRow, freqBytes};
-ghost use Rattle.sheet.specs.Sheet.{mostFreqs};
+ghost use Rattle.sheet_rows.specs.Form.{mostFreqs};
 ghost use Rattle.rows.specs.Rows.{setAt, Put};
 ghost use Rattle.graph.specs.Rows.{RowsFit};
 ghost use Rattle.graph.specs.Strikes.{Rewritten};

@@ -25,13 +25,14 @@ use start::start_rows;
 use strike::rule_side;
 use strike::side;
 
-// One side of a rule row: its kind, value and count; the vertices of one of its links, from `from` up to `upto`, whose
+// One side of a rule row: its kind, value and count; the widths of its links together; the vertices of one of its links, from `from` up to `upto`, whose
 // rows it changes; and those of its other link, from `first` up to `end`, of which it leaves there what it allows.
 // `turned` where the other link is the lower one.
 struct Side {
     pub kind: usize,
     pub value: usize,
     pub count: usize,
+    pub widths: usize,
     pub turned: bool,
     pub from: usize,
     pub upto: usize,
@@ -40,39 +41,56 @@ struct Side {
 }
 
 // Rule row j: in the rows of each of its links, of the other link what it allows.
-fn apply_rule(part: &mut [u64], place: Place, ls: &[u8], fs: &[u8], rs: &[u8], ps: &[u8], j: usize)
-    requires { ⌜ RuleRow (now ls) (now fs) (now rs) (now ps) (place .k) (place .n) j
+fn apply_rule(
+    part: &mut [u64],
+    place: Place,
+    sheet: &[u8],
+    fs: &[u8],
+    rs: &[u8],
+    ps: &[u8],
+    j: usize,
+)
+    requires { ⌜ RuleRow (now sheet) (now fs) (now rs) (now ps) (place .k) (place .n) j
         × RowsFit (place .w) (place .graph) (place .n) (length (now part)) ⌝ }
     requires { ⌜ ((u : ℕ) → u < place .n → rowAt (now part) (place .w) (place .graph) u
-        ≡ adjacent (now ls) (now fs) (now rs) (now ps) (place .k) (place .n) j u) ⌝ }
-    ensures { λ r. ⌜ Built (adjacent (now (ls .entry)) (now (fs .entry)) (now (rs .entry)) (now (ps .entry))
+        ≡ adjacent (now sheet) (now fs) (now rs) (now ps) (place .k) (place .n) j u) ⌝ }
+    ensures { λ r. ⌜ Built (adjacent (now (sheet .entry)) (now (fs .entry)) (now (rs .entry)) (now (ps .entry))
         (place .k) (place .n) (j + 1)) (place .w) (place .graph) (place .n) (now (part .entry)) (now (part .exit)) ⌝ }
 {
     let a = rule_a(rs, j);
     let b = rule_b(rs, j);
-    let lower = side(ls, rs, j, false, a, b);
+    let lower = side(sheet, rs, j, false, a, b);
     rule_side(part, place, fs, ps, lower);
-    let higher = side(ls, rs, j, true, b, a);
+    let higher = side(sheet, rs, j, true, b, a);
     rule_side(part, place, fs, ps, higher);
 }
 
 // The rows of the graph, under q rules.
-fn build_rows(part: &mut [u64], place: Place, ls: &[u8], fs: &[u8], rs: &[u8], ps: &[u8], q: usize)
-    requires { ⌜ Sections (now ls) (now fs) (now rs) (now ps) (place .k) (place .n) q
+fn build_rows(
+    part: &mut [u64],
+    place: Place,
+    sheet: &[u8],
+    fs: &[u8],
+    rs: &[u8],
+    ps: &[u8],
+    q: usize,
+)
+    requires { ⌜ Sections (now sheet) (now fs) (now rs) (now ps) (place .k) (place .n) q
         × RowsFit (place .w) (place .graph) (place .n) (length (now part)) ⌝ }
-    ensures { λ r. ⌜ Built (adjacent (now (ls .entry)) (now (fs .entry)) (now (rs .entry)) (now (ps .entry))
+    ensures { λ r. ⌜ Built (adjacent (now (sheet .entry)) (now (fs .entry)) (now (rs .entry)) (now (ps .entry))
         (place .k) (place .n) q) (place .w) (place .graph) (place .n) (now (part .entry)) (now (part .exit)) ⌝ }
 {
-    start_rows(part, place, ls);
+    start_rows(part, place, sheet);
     separate_rows(part, place, fs);
     let mut j = 0;
     while j < q {
-        apply_rule(part, place, ls, fs, rs, ps, j);
+        apply_rule(part, place, sheet, fs, rs, ps, j);
         j += 1;
     }
 }
 
-// The rows of the graph of an accepted sheet. Each section is the part of the sheet that begins at its offset.
+// The rows of the graph of an accepted sheet. Links are looked up in the sheet; each other section is the part of it that
+// begins at its offset.
 pub fn build_graph(part: &mut [u64], place: Place, sheet: &[u8])
     requires { ⌜ RowsAsked (now sheet) place (length (now part)) ⌝ }
     ensures { λ r. ⌜ Built (edge (jobOf (now (sheet .entry)))) (place .w) (place .graph) (place .n)
@@ -84,7 +102,7 @@ pub fn build_graph(part: &mut [u64], place: Place, sheet: &[u8])
     build_rows(
         part,
         place,
-        &sheet[40..],
+        sheet,
         &sheet[freqs..],
         &sheet[rules..],
         &sheet[pairs..],

@@ -42,27 +42,27 @@ fn repeat_row(part: &mut [u64], place: Place, first: usize, end: usize)
 }
 
 // The rows of link l, which are equal. The last row of all, at `full`, has every vertex until it is written.
-fn start_link(part: &mut [u64], place: Place, full: usize, ls: &[u8], l: usize)
-    requires { ⌜ LinkRows (now ls) (place .k) (place .n)
+fn start_link(part: &mut [u64], place: Place, full: usize, sheet: &[u8], l: usize)
+    requires { ⌜ LinkRows (now sheet) (place .k) (place .n)
         × RowsFit (place .w) (place .graph) (place .n) (length (now part))
         × (l < place .k) × Begins (place .graph) (place .w) (place .n - 1) (place .n) full
         × (setAt (now part) (place .w) full ≡ whole (place .n)) ⌝ }
-    ensures { λ r. ⌜ Rewritten (λ (u : ℕ) (S : Set). linksDiffer (now (ls .entry)) (place .k) (place .n) u)
-        (linkFirst (now (ls .entry)) l) (linkFirst (now (ls .entry)) l + linkCount (now (ls .entry)) l)
+    ensures { λ r. ⌜ Rewritten (λ (u : ℕ) (S : Set). linksDiffer (now (sheet .entry)) (place .k) (place .n) u)
+        (linkFirst (now (sheet .entry)) l) (linkFirst (now (sheet .entry)) l + linkCount (now (sheet .entry)) l)
         (place .w) (place .graph) (place .n) (now (part .entry)) (now (part .exit)) ⌝ }
 {
-    let first = link_first(ls, l);
-    let end = first + link_count(ls, l);
+    let first = link_first(sheet, l);
+    let end = first + link_count(sheet, l);
     let row = rows::row_at(place.graph, place.w, first, place.n);
     start_row(part, place.w, row, full, first, end);
     repeat_row(part, place, first, end);
 }
 
 // All rows, link by link.
-pub fn start_rows(part: &mut [u64], place: Place, ls: &[u8])
-    requires { ⌜ LinkRows (now ls) (place .k) (place .n)
+pub fn start_rows(part: &mut [u64], place: Place, sheet: &[u8])
+    requires { ⌜ LinkRows (now sheet) (place .k) (place .n)
         × RowsFit (place .w) (place .graph) (place .n) (length (now part)) ⌝ }
-    ensures { λ r. ⌜ Built (linksDiffer (now (ls .entry)) (place .k) (place .n))
+    ensures { λ r. ⌜ Built (linksDiffer (now (sheet .entry)) (place .k) (place .n))
         (place .w) (place .graph) (place .n) (now (part .entry)) (now (part .exit)) ⌝ }
 {
     let w = place.w;
@@ -73,7 +73,7 @@ pub fn start_rows(part: &mut [u64], place: Place, ls: &[u8])
     add_span(part, w, last, 0, n);
     let mut l = 0;
     while l < k {
-        start_link(part, place, last, ls, l);
+        start_link(part, place, last, sheet, l);
         l += 1;
     }
 }

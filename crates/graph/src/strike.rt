@@ -3,7 +3,7 @@ ghost use mathlib.Core.Path.{_≡_};
 ghost use Prim.Native.Nat.{_+_, _-_, _*_, _^_, _<_, _≤_};
 ghost use lib.ListN.{length};
 ghost use Rattle.sets.specs.Sets.{_⊆_, _∩_, _∪_, _∖_, just};
-ghost use Rattle.sheet_rows.specs.Rows.{freqBytes, linkBytes, ruleBytes, pairBytes};
+ghost use Rattle.sheet_rows.specs.Rows.{HasRow, HasLink, freqBytes, ruleBytes, pairBytes};
 ghost use Rattle.rows.specs.Rows.{setAt, rowAt, Put};
 ghost use Rattle.graph.specs.Rows.{RowsFit};
 ghost use Rattle.graph.specs.Strikes.{stretch, sideOf, ownPlace, otherPlace, partner, partners, clashing};
@@ -16,6 +16,7 @@ use rules::distance;
 use sheet_rows::freq;
 use sheet_rows::link_count;
 use sheet_rows::link_first;
+use sheet_rows::link_width;
 use sheet_rows::pair_first;
 use sheet_rows::pair_second;
 use sheet_rows::rule_count;
@@ -23,41 +24,32 @@ use sheet_rows::rule_kind;
 use sheet_rows::rule_value;
 
 // Rule row j seen from its link a to its link b.
-pub fn side(ls: &[u8], rs: &[u8], j: usize, turned: bool, a: usize, b: usize) -> Side
-    requires { ⌜ (linkBytes * a + linkBytes ≤ length (now ls)) × (linkBytes * b + linkBytes ≤ length (now ls))
-        × (ruleBytes * j + ruleBytes ≤ length (now rs)) ⌝ }
-    ensures { λ r. ⌜ r ≡ sideOf (now (ls .entry)) (now (rs .entry)) j turned a b ⌝ }
+pub fn side(sheet: &[u8], rs: &[u8], j: usize, turned: bool, a: usize, b: usize) -> Side
+    requires { ⌜ HasLink (now sheet) a × HasLink (now sheet) b × HasRow ruleBytes (now rs) j ⌝ }
+    ensures { λ r. ⌜ r ≡ sideOf (now (sheet .entry)) (now (rs .entry)) j turned a b ⌝ }
 {
-    let from = link_first(ls, a);
-    let first = link_first(ls, b);
+    let from = link_first(sheet, a);
+    let first = link_first(sheet, b);
     Side {
         kind: rule_kind(rs, j),
         value: rule_value(rs, j),
         count: rule_count(rs, j),
+        widths: link_width(sheet, a) + link_width(sheet, b),
         turned: turned,
         from: from,
-        upto: from + link_count(ls, a),
+        upto: from + link_count(sheet, a),
         first: first,
-        end: first + link_count(ls, b),
+        end: first + link_count(sheet, b),
     }
 }
 
 // Vertex v is struck from row `to`, where a rule of kind 1 or 2 does not allow it with the frequency x.
-fn strike_one(
-    part: &mut [u64],
-    w: usize,
-    to: usize,
-    fs: &[u8],
-    kind: usize,
-    value: usize,
-    x: usize,
-    v: usize,
-)
-    requires { ⌜ (to + w ≤ length (now part)) × (v < 64 * w) × (freqBytes * v + freqBytes ≤ length (now fs)) ⌝ }
-    ensures { λ r. ⌜ Put (setAt (now (part .entry)) w to ∖ (just v ∩ clashing (now (fs .entry)) kind value x))
+fn strike_one(part: &mut [u64], w: usize, to: usize, fs: &[u8], s: Side, x: usize, v: usize)
+    requires { ⌜ (to + w ≤ length (now part)) × (v < 64 * w) × HasRow freqBytes (now fs) v ⌝ }
+    ensures { λ r. ⌜ Put (setAt (now (part .entry)) w to ∖ (just v ∩ clashing (now (fs .entry)) s x))
         w to (now (part .entry)) (now (part .exit)) ⌝ }
 {
-    if agree(kind, value, distance(x, freq(fs, v)), false) {
+    if agree(s.kind, s.value, s.widths, distance(x, freq(fs, v)), false) {
         return;
     }
     rows::remove(part, w, to, v);
@@ -69,15 +61,13 @@ fn strike_near(part: &mut [u64], w: usize, to: usize, fs: &[u8], s: Side, x: usi
         × (freqBytes * s .end ≤ length (now fs)) ⌝ }
     ensures { λ r. ⌜ Put
         (setAt (now (part .entry)) w to
-        ∖ (stretch (s .first) (s .end) ∩ clashing (now (fs .entry)) (s .kind) (s .value) x))
+        ∖ (stretch (s .first) (s .end) ∩ clashing (now (fs .entry)) s x))
         w to (now (part .entry)) (now (part .exit)) ⌝ }
 {
-    let kind = s.kind;
-    let value = s.value;
     let end = s.end;
     let mut v = s.first;
     while v < end {
-        strike_one(part, w, to, fs, kind, value, x, v);
+        strike_one(part, w, to, fs, s, x, v);
         v += 1;
     }
 }

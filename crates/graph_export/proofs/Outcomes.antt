@@ -10,7 +10,7 @@ use borrow.Author.Tests.{eq-eqb, ne-eqb, le-leb, leb-true}
 use Rattle.sets.specs.Below.{tabulate}
 use Rattle.sets.proofs.Tests.{bool, clash, and-in, and-l, and-r}
 use Rattle.sheet_rows.specs.Rows.{linkCount}
-use Rattle.sheet.specs.Sheet.{kOf, nOf, linkPart}
+use Rattle.sheet.specs.Sheet.{kOf, nOf}
 use Rattle.sheet.specs.Refusal.{numberOf, refusal, unless}
 use Rattle.sheet.specs.declared.Cause.{Cause}
 use Rattle.sheet.specs.declared.Reading.{Reading}
@@ -138,12 +138,12 @@ module _ (s : List ℕ) (g c : ℕ) where
 -- the texts that the rows and the counts of a sheet give
 pub both-put : (s : List ℕ) {p q G G′ C C′ : List ℕ} {n k : ℕ} {r : Lengths} → n ≡ nOf s → k ≡ kOf s
     → Built (edge (jobOf s)) rowWords 0 n p q → Puts (graphText n) n mostGraph q G G′ (r .graph)
-    → Wrote (countsText (tabulate k (linkCount (linkPart s)))) C 0 C′ (r .counts) → r .counts ≤ mostCounts
+    → Wrote (countsText (tabulate k (linkCount s))) C 0 C′ (r .counts) → r .counts ≤ mostCounts
     → BothPut (graphTextOf s) (countsTextOf s) G G′ C C′ r
 unfolding countsOf
 both-put s e f B P W few = record {
   graph = wrote-same (ap (λ i. graphText i (edge (jobOf s))) e) (P .wrote (edge (jobOf s)) (record { rows = B .rows }));
-  counts = wrote-same (ap (λ i. countsText (tabulate i (linkCount (linkPart s)))) f) W;
+  counts = wrote-same (ap (λ i. countsText (tabulate i (linkCount s))) f) W;
   graph-few = P .few;
   counts-few = few;
 }

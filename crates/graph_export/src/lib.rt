@@ -70,7 +70,7 @@ fn put_both(sheet: &[u8], part: &mut [u64], graph: &mut [u8], counts: &mut [u8])
     };
     build_graph(part, place, sheet);
     let g = put_graph(graph, part, n);
-    let c = put_counts(counts, &sheet[40..], k);
+    let c = put_counts(counts, sheet, k);
     Lengths {
         graph: g,
         counts: c,

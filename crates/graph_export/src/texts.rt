@@ -4,7 +4,7 @@ ghost use mathlib.Core.List.{_++_};
 ghost use Prim.Native.Nat.{_+_, _*_, _≤_, _<_};
 ghost use lib.ListN.{length};
 ghost use Rattle.sets.specs.Below.{tabulate};
-ghost use Rattle.sheet_rows.specs.Rows.{linkCount};
+ghost use Rattle.sheet_rows.specs.Rows.{HasLinks, linkCount};
 ghost use Rattle.output.specs.Output.{Wrote, mostText};
 ghost use Rattle.lines.specs.Lines.{ascii, decimal, line};
 ghost use Rattle.dimacs.specs.Export.{graphText, countText, countsText};
@@ -87,16 +87,16 @@ fn put_count(out: &mut [u8], at: usize, count: u32) -> usize
     put_byte(out, end, b'\n')
 }
 
-// Puts the count text: the counts of k link rows.
-pub fn put_counts(out: &mut [u8], ls: &[u8], k: usize) -> usize
-    requires { ⌜ (4 * k ≤ length (now ls)) × (k ≤ 64) ⌝ }
-    ensures { λ r. ⌜ Wrote (countsText (tabulate k (linkCount (now (ls .entry)))))
+// Puts the count text: the counts of k links of the sheet.
+pub fn put_counts(out: &mut [u8], sheet: &[u8], k: usize) -> usize
+    requires { ⌜ HasLinks (now sheet) k × (k ≤ 64) ⌝ }
+    ensures { λ r. ⌜ Wrote (countsText (tabulate k (linkCount (now (sheet .entry)))))
         (now (out .entry)) 0 (now (out .exit)) r × (r ≤ mostCounts) ⌝ }
 {
     let mut end = 0;
     let mut l = 0;
     while l < k {
-        end = put_count(out, end, link_count(ls, l) as u32);
+        end = put_count(out, end, link_count(sheet, l) as u32);
         l += 1;
     }
     end

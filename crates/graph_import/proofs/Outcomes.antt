@@ -16,7 +16,7 @@ use Rattle.zeros.specs.Zeros.{zeros}
 use Rattle.output.specs.Output.{Wrote}
 use Rattle.output.proofs.Wrote.{wrote-padded}
 use Rattle.dimacs.specs.Reading.{verticesOf, Texts, malformed, clashed, texts, textsOf}
-use Rattle.dimacs.specs.Made.{joined, pairTotal, sheetOf}
+use Rattle.dimacs.specs.Made.{madeBytes, joined, pairTotal, sheetOf}
 use Rattle.dimacs.specs.Import.{textGraph, sheetBytes, sheetFits, textsCause, sheetBy}
 use Rattle.dimacs.specs.Import.{importOf, imported}
 use Rattle.dimacs.proofs.Choices.{yes-is, no-is}
@@ -83,7 +83,7 @@ module _ (counts codes : List ℕ) {s : Sizes} {len : ℕ} (G : GraphIn counts s
   module _ {t : Totals} (T : TotalsOf cs (adjacentIn codes s) t) where
     -- the bytes of the sheet
     abbrev bytes : ℕ
-    bytes = endAt (s .links) (s .vertices) (t .rules) (t .pairs)
+    bytes = endAt madeBytes (s .links) (s .vertices) (t .rules) (t .pairs)
 
     all : TotalsOf cs adj t
     all = subst (λ m. TotalsOf cs (joined m E) t) vertices T

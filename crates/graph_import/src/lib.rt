@@ -5,6 +5,7 @@ ghost use Prim.Native.Nat.{_≤_};
 ghost use lib.ListN.{length};
 ghost use Rattle.vset.specs.Words.{has};
 ghost use Rattle.sheet.specs.Sheet.{endAt};
+ghost use Rattle.dimacs.specs.Made.{madeBytes};
 ghost use Rattle.zeros.specs.Zeros.{zeros};
 ghost use Rattle.dimacs.specs.Reading.{texts};
 ghost use Rattle.dimacs.specs.Import.{importOf, imported};
@@ -55,7 +56,7 @@ fn refused(answer: ImportAnswer) -> Imported
 // The bytes of the sheet of a graph with so many rules and pairs.
 fn sheet_bytes(s: Sizes, t: Totals) -> usize
     requires { ⌜ (s .links ≤ 64) × (s .vertices ≤ 512) × (t .rules ≤ 4096) × (t .pairs ≤ 8192) ⌝ }
-    ensures { λ r. ⌜ r ≡ endAt (s .links) (s .vertices) (t .rules) (t .pairs) ⌝ }
+    ensures { λ r. ⌜ r ≡ endAt madeBytes (s .links) (s .vertices) (t .rules) (t .pairs) ⌝ }
 {
     40 + 4 * s.links + 4 * s.vertices + 12 * t.rules + 4 * t.pairs
 }

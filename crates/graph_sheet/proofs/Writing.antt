@@ -16,7 +16,7 @@ use Rattle.wire_put.specs.Puts.{full, fulls}
 use Rattle.dimacs.specs.Lists.{joinTo}
 use Rattle.dimacs.specs.Reading.{firstOf, verticesOf}
 use Rattle.dimacs.specs.Made.{header, linkRowOf, linkRows, freqRow, freqRows, ruleTotal, pairTotal, ruleRow, ruleRows}
-use Rattle.dimacs.specs.Made.{pairRows, sheetOf}
+use Rattle.dimacs.specs.Made.{madeBytes, pairRows, sheetOf}
 use Rattle.graph_sheet.specs.Rows.{ruleRowBytes}
 use Rattle.graph_sheet.specs.Pairs.{RuleTold, TotalsOf}
 use Rattle.graph_sheet.specs.declared.joins.RuleAt.{RuleAt}
@@ -25,7 +25,8 @@ use Rattle.graph_sheet.proofs.Ruling as Ruling
 use Rattle.graph_sheet.proofs.Ruling.{Tally, placeOf, total-is, row-is, pairs-within}
 
 pub header-put : (k n q t : ℕ) {o p : List ℕ} {at r : ℕ}
-    → Wrote (fulls (1 ∷ k ∷ n ∷ q ∷ t ∷ 40 ∷ freqsAt k ∷ rulesAt k n ∷ pairsAt k n q ∷ endAt k n q t ∷ [])) o at p r
+    → Wrote (fulls (1 ∷ k ∷ n ∷ q ∷ t ∷ 40 ∷ freqsAt madeBytes k ∷ rulesAt madeBytes k n ∷
+    pairsAt madeBytes k n q ∷ endAt madeBytes k n q t ∷ [])) o at p r
     → Wrote (header k n q t) o at p r
 unfolding header fulls full
 header-put k n q t w = w

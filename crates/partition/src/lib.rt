@@ -11,7 +11,7 @@ ghost use Prim.Native.Nat.{_+_, _*_, _<_, _≤_};
 ghost use lib.Dec.{ltb};
 ghost use lib.ListN.{length};
 ghost use Rattle.sets.specs.Below.{all};
-ghost use Rattle.sheet_rows.specs.Rows.{linkBytes};
+ghost use Rattle.sheet_rows.specs.Rows.{HasLinks};
 ghost use Rattle.rules.specs.Layers.{layerOf};
 ghost use Rattle.partition.specs.Partition.{classOf, layersOf};
 ghost use Rattle.partition.specs.Choice.{classList};
@@ -22,13 +22,13 @@ pub use masks::put_masks;
 use rules::layer;
 
 // Choice 0: the class of a vertex is its layer, among k links.
-pub fn put_layers(ls: &[u8], n: usize, k: usize, cls: &mut [u8])
-    requires { ⌜ (linkBytes * k ≤ length (now ls)) × (length (now cls) ≡ n) × (k < 256) ⌝ }
-    ensures { λ _. ⌜ now (cls .exit) ≡ layersOf n (layerOf (now (ls .entry)) k) ⌝ }
+pub fn put_layers(sheet: &[u8], n: usize, k: usize, cls: &mut [u8])
+    requires { ⌜ HasLinks (now sheet) k × (length (now cls) ≡ n) × (k < 256) ⌝ }
+    ensures { λ _. ⌜ now (cls .exit) ≡ layersOf n (layerOf (now (sheet .entry)) k) ⌝ }
 {
     let mut v = 0;
     while v < n {
-        let l = layer(ls, k, v);
+        let l = layer(sheet, k, v);
         cls[v] = l as u8;
         v += 1;
     }

@@ -1,5 +1,5 @@
 -- Laws of layers, of the sections of an accepted sheet, of the pair test and of the vertex of a frequency.
-use Prim.Native.Nat.{ℕ, zero, suc, _+_, _*_, _≤_, _<_}
+use Prim.Native.Nat.{ℕ, zero, suc, _+_, _-_, _*_, _/_, _%_, _≤_, _<_}
 use mathlib.Core.Path.{_≡_, ap, sym, _∙_}
 use mathlib.Core.List.{List}
 use mathlib.Core.Bool.{Bool, true, false, _&&_}
@@ -11,10 +11,11 @@ use borrow.Author.Tests.{eqb-true, ltb-true, leb-true, leb-false, eq-eqb, ne-eqb
 use Rattle.sets.specs.Below.{all, sumTo}
 use Rattle.sets.proofs.Tests.{bool, iff, and-l, and-r, and-in, below}
 use Rattle.sets.proofs.Below.{all-out, first-any, sum-in}
-use Rattle.sheet_rows.specs.Rows.{HasRow, linkBytes, freqBytes, ruleBytes, pairBytes}
+use Rattle.sheet_rows.specs.Rows.{HasRow, HasLink, freqBytes, ruleBytes, pairBytes}
 use Rattle.sheet_rows.specs.Rows.{linkFirst, linkCount, freq, ruleA, ruleB, ruleKind, ruleCount, ruleValue}
+use Rattle.sheet_rows.proofs.Rows.{has-link}
 use Rattle.sheet.specs.Sheet.{linksOk, listed}
-use Rattle.sheet.specs.Sheet.{kOf, nOf, qOf, tOf, linkPart, freqPart, rulePart, pairPart}
+use Rattle.sheet.specs.Sheet.{kOf, nOf, qOf, tOf, freqPart, rulePart, pairPart}
 use Rattle.sheet.specs.Accepted.{Accepted}
 use Rattle.sheet.specs.Refusal.{causeNumber, numberOf, refusal}
 use Rattle.sheet.specs.declared.Cause.{Cause}
@@ -26,7 +27,7 @@ use Rattle.sheet.proofs.Links.{link-first, link-sum, link-in}
 use Rattle.sheet.proofs.Rules.{rule-in}
 use Rattle.rules.specs.Layers.{layerOf, InLink}
 use Rattle.rules.specs.Parts.{LinkRows, Parts}
-use Rattle.rules.specs.Pairs.{agree}
+use Rattle.rules.specs.Pairs.{spaced, agree}
 use Rattle.rules.specs.Plans.{cellsOf, checked, placeOf, hasFreq, vertexOf, inLists}
 use Rattle.rules.specs.Asked.{RowAt, Taken, inList}
 
@@ -92,14 +93,14 @@ layer-down p l m v q h = rw (q, add-one, lt-leb (linkFirst p m) v h)
 -- the sections of an accepted sheet
 
 pub parts-of : (s : List ℕ) → Accepted s
-    → Parts (linkPart s) (freqPart s) (rulePart s) (pairPart s) (kOf s) (nOf s) (qOf s) (tOf s)
+    → Parts s (freqPart s) (rulePart s) (pairPart s) (kOf s) (nOf s) (qOf s) (tOf s)
 parts-of s a =
     record {
       k-some = a .head .k-some;
       k-small = a .head .k-small;
       n-some = a .head .n-some;
       n-small = a .head .n-small;
-      link-rows = simp length-drop (omega (arith, a .head .whole));
+      link-rows = omega (arith, a .head .whole);
       freq-rows = simp length-drop (omega (arith, a .head .whole));
       rule-rows = simp length-drop (omega (arith, a .head .whole));
       pair-rows = simp length-drop (omega (arith, a .head .whole));
@@ -109,35 +110,35 @@ parts-of s a =
       pairs = a .pairs;
     }
 
-module _ {ls fs rs ps : List ℕ} {k n q t : ℕ} (P : Parts ls fs rs ps k n q t) where
+module _ {s fs rs ps : List ℕ} {k n q t : ℕ} (P : Parts s fs rs ps k n q t) where
   -- a rule's links are in order, and among the k
   pub rule-links : (j : ℕ) → j < q → (ruleA rs j < ruleB rs j) × (ruleB rs j < k)
   rule-links j b = let f = rule-in rs k q t j (P .rules) b in (f .order, f .within)
 
   -- the rows of a rule's links and the row itself are there, and the links' vertices are among the n
   pub links-within : (j : ℕ) → j < q →
-      (4 * ruleA rs j + 4 ≤ length ls) × (4 * ruleB rs j + 4 ≤ length ls) × (12 * j + 12 ≤ length rs) ×
-      (linkFirst ls (ruleA rs j) + linkCount ls (ruleA rs j) ≤ n) ×
-      (linkFirst ls (ruleB rs j) + linkCount ls (ruleB rs j) ≤ n)
+      HasLink s (ruleA rs j) × HasLink s (ruleB rs j) × HasRow ruleBytes rs j ×
+      (linkFirst s (ruleA rs j) + linkCount s (ruleA rs j) ≤ n) ×
+      (linkFirst s (ruleB rs j) + linkCount s (ruleB rs j) ≤ n)
   links-within j b =
       let o = rule-links j b in (
-        omega (arith, P .link-rows),
-        omega (arith, P .link-rows),
+        has-link s k (ruleA rs j) (P .link-rows) (omega arith),
+        has-link s k (ruleB rs j) (P .link-rows) (omega arith),
         omega (arith, P .rule-rows),
-        link-in ls k n (P .links) (ruleA rs j) (omega arith),
-        link-in ls k n (P .links) (ruleB rs j) (omega arith),
+        link-in s k n (P .links) (ruleA rs j) (omega arith),
+        link-in s k n (P .links) (ruleB rs j) (omega arith),
       )
 
   -- the link rows alone
-  pub link-rows : LinkRows ls k n
+  pub link-rows : LinkRows s k n
   link-rows = record { n-some = P .n-some; n-small = P .n-small; rows = P .link-rows; links = P .links }
 
 -- what the code needs of a rule row with two vertices
 pub record RowBounds (s : List ℕ) (j u v : ℕ) : Type 0 where
-  pub rowA : HasRow linkBytes (linkPart s) (ruleA (rulePart s) j)
-  pub rowB : HasRow linkBytes (linkPart s) (ruleB (rulePart s) j)
-  pub fromA : linkFirst (linkPart s) (ruleA (rulePart s) j) ≤ u
-  pub fromB : linkFirst (linkPart s) (ruleB (rulePart s) j) ≤ v
+  pub rowA : HasLink s (ruleA (rulePart s) j)
+  pub rowB : HasLink s (ruleB (rulePart s) j)
+  pub fromA : linkFirst s (ruleA (rulePart s) j) ≤ u
+  pub fromB : linkFirst s (ruleB (rulePart s) j) ≤ v
   pub freqU : HasRow freqBytes (freqPart s) u
   pub freqV : HasRow freqBytes (freqPart s) v
   pub row : HasRow ruleBytes (rulePart s) j
@@ -148,7 +149,7 @@ listed-is : (p : List ℕ) (j : ℕ) → ruleKind p j ≡ 3 → listed p j ≡ r
 unfolding listed
 listed-is p j h = rw h
 
-module _ {ls fs rs ps : List ℕ} {k n q t : ℕ} (P : Parts ls fs rs ps k n q t) where
+module _ {s fs rs ps : List ℕ} {k n q t : ℕ} (P : Parts s fs rs ps k n q t) where
   pairs-there : (j : ℕ) → j < q → ruleKind rs j ≡ 3 → 0 < ruleCount rs j
       → pairBytes * (ruleValue rs j + ruleCount rs j) ≤ length ps
   pairs-there j b e o =
@@ -156,8 +157,8 @@ module _ {ls fs rs ps : List ℕ} {k n q t : ℕ} (P : Parts ls fs rs ps k n q t
       let g = rule-in rs k q t j (P .rules) b .pairs (omega arith) in
       omega (arith, P .pair-rows)
 
-  pub freq-there : (l v : ℕ) → l < k → InLink ls l v → HasRow freqBytes fs v
-  freq-there l v b i = let x = in-link-lt ls k n (P .links) l v b i in omega (arith, P .freq-rows)
+  pub freq-there : (l v : ℕ) → l < k → InLink s l v → HasRow freqBytes fs v
+  freq-there l v b i = let x = in-link-lt s k n (P .links) l v b i in omega (arith, P .freq-rows)
 
 pub row-bounds : {s : List ℕ} {j u v : ℕ} → RowAt s j u v → RowBounds s j u v
 row-bounds {s} {j} {u} {v} r =
@@ -177,51 +178,75 @@ row-bounds {s} {j} {u} {v} r =
 
 -- the rows of a link of an accepted sheet: its own and its frequencies'
 module _ {s : List ℕ} {l : ℕ} (a : Accepted s) (b : l < kOf s) where
-  pub link-there : HasRow linkBytes (linkPart s) l
-  link-there = omega (arith, parts-of s a .link-rows)
+  pub link-there : HasLink s l
+  link-there = has-link s (kOf s) l (parts-of s a .link-rows) b
 
-  pub freqs-there : freqBytes * (linkFirst (linkPart s) l + linkCount (linkPart s) l) ≤ length (freqPart s)
-  freqs-there = let P = parts-of s a in omega (arith, P .freq-rows, link-in (linkPart s) (kOf s) (nOf s) (P .links) l b)
+  pub freqs-there : freqBytes * (linkFirst s l + linkCount s l) ≤ length (freqPart s)
+  freqs-there = let P = parts-of s a in omega (arith, P .freq-rows, link-in s (kOf s) (nOf s) (P .links) l b)
 
 -- the pair test: a rule of kind 3 does not look at the difference, and no other looks at the list
 
-pub agree-listed : (kind value d e : ℕ) (l : Bool) → kind ≡ 3 → agree kind value d l ≡ agree kind value e l
+pub agree-listed : (kind value w x d e : ℕ) (l : Bool) → kind ≡ 3 → agree kind value w d l ≡ agree kind value x e l
 unfolding agree
-agree-listed kind value d e l h = rw h
+agree-listed kind value w x d e l h = rw h
 
-pub agree-plain : (kind value d : ℕ) (l m : Bool) → (kind ≡ 3 → ⊥) → agree kind value d l ≡ agree kind value d m
+pub agree-plain : (kind value w d : ℕ) (l m : Bool) → (kind ≡ 3 → ⊥)
+    → agree kind value w d l ≡ agree kind value w d m
 unfolding agree
-agree-plain kind value d l m h = rw (ne-eqb kind 3 h)
+agree-plain kind value w d l m h = rw (ne-eqb kind 3 h)
 
 -- and no other allows equal frequencies
-pub agree-equal : (kind value : ℕ) → (kind ≡ 3 → ⊥) → 0 < value → agree kind value 0 false ≡ false
-unfolding agree
-agree-equal kind value ne h = bool (eqb kind 1)
-    (λ e. rw (e, lt-leb value 0 h))
+pub agree-equal : (kind value w : ℕ) → (kind ≡ 3 → ⊥) → 0 < value → agree kind value w 0 false ≡ false
+unfolding agree spaced
+agree-equal kind value w ne h = bool (eqb kind 1)
+    (λ e. rw (e, lt-leb (2 * value + w) 0 (omega arith)))
     (λ e. bool (eqb kind 2)
     (λ f. rw (e, f, ne-eqb 0 value (λ z. omega arith)))
     (λ f. rw (e, f, ne-eqb kind 3 ne)))
 
+-- the spacing between edges: too near for the centres, by half the widths, and without widths
+
+pub spaced-near : (value widths apart : ℕ) → apart < value → false ≡ spaced value widths apart
+unfolding spaced
+spaced-near value widths apart h = sym (lt-leb (2 * value + widths) (2 * apart) (omega arith))
+
+pub spaced-half : (value widths apart : ℕ) → value ≤ apart
+    → leb (widths / 2 + widths % 2) (apart - value) ≡ spaced value widths apart
+unfolding spaced
+spaced-half value widths apart h = iff _ _
+    (λ e.
+    let z = leb-true (widths / 2 + widths % 2) (apart - value) e in
+    le-leb (2 * value + widths) (2 * apart) (omega arith))
+    (λ e.
+    let z = leb-true (2 * value + widths) (2 * apart) e in
+    le-leb (widths / 2 + widths % 2) (apart - value) (omega arith))
+
+pub spaced-centres : (value apart : ℕ) → spaced value 0 apart ≡ leb value apart
+unfolding spaced
+spaced-centres value apart = iff _ _
+    (λ e. let z = leb-true (2 * value + 0) (2 * apart) e in le-leb value apart (omega arith))
+    (λ e. let z = leb-true value apart e in le-leb (2 * value + 0) (2 * apart) (omega arith))
+
 -- the vertex of a frequency
 
-pub has-freq-is : (ls fs : List ℕ) (l x : ℕ)
-    → ltb (placeOf fs (linkFirst ls l) (linkCount ls l) x) (linkCount ls l) ≡ hasFreq ls fs l x
+pub has-freq-is : (s fs : List ℕ) (l x : ℕ)
+    → ltb (placeOf fs (linkFirst s l) (linkCount s l) x) (linkCount s l) ≡ hasFreq s fs l x
 unfolding placeOf hasFreq
-has-freq-is ls fs l x = first-any (linkCount ls l) (λ i. eqb (freq fs (linkFirst ls l + i)) x)
+has-freq-is s fs l x = first-any (linkCount s l) (λ i. eqb (freq fs (linkFirst s l + i)) x)
 
-pub has-freq-lt : (ls fs : List ℕ) (l x : ℕ) → hasFreq ls fs l x ≡ true
-    → placeOf fs (linkFirst ls l) (linkCount ls l) x < linkCount ls l
-has-freq-lt ls fs l x h =
-    ltb-true (placeOf fs (linkFirst ls l) (linkCount ls l) x) (linkCount ls l) (has-freq-is ls fs l x ∙ h)
+pub has-freq-lt : (s fs : List ℕ) (l x : ℕ) → hasFreq s fs l x ≡ true
+    → placeOf fs (linkFirst s l) (linkCount s l) x < linkCount s l
+has-freq-lt s fs l x h =
+    ltb-true (placeOf fs (linkFirst s l) (linkCount s l) x) (linkCount s l) (has-freq-is s fs l x ∙ h)
 
-pub vertex-in : (ls fs : List ℕ) (l x : ℕ) → hasFreq ls fs l x ≡ true → InLink ls l (vertexOf ls fs l x)
+pub vertex-in : (s fs : List ℕ) (l x : ℕ) → hasFreq s fs l x ≡ true → InLink s l (vertexOf s fs l x)
 unfolding vertexOf
-vertex-in ls fs l x h = record { low = omega arith; high = omega (arith, has-freq-lt ls fs l x h) }
+vertex-in s fs l x h = record { low = omega arith; high = omega (arith, has-freq-lt s fs l x h) }
 
-pub listed-at : (ls fs : List ℕ) (k : ℕ) (f : ℕ → ℕ) (l : ℕ) → all k (inLists ls fs f) ≡ true → l < k
-    → hasFreq ls fs l (f l) ≡ true
+pub listed-at : (s fs : List ℕ) (k : ℕ) (f : ℕ → ℕ) (l : ℕ) → all k (inLists s fs f) ≡ true → l < k
+    → hasFreq s fs l (f l) ≡ true
 unfolding inLists
-listed-at ls fs k f l h b = all-out k (inLists ls fs f) h l b
+listed-at s fs k f l h b = all-out k (inLists s fs f) h l b
 
 -- what the code needs of a link and the cell taken for it
 pub record CellTaken (s cells : List ℕ) (l : ℕ) : Type 0 where
@@ -235,7 +260,7 @@ cell-taken {s} {cells} {l} t b =
     record {
       low = b;
       there = omega arith;
-      listed = listed-at (linkPart s) (freqPart s) (kOf s) (cellsOf cells) l (t .listed) b;
+      listed = listed-at s (freqPart s) (kOf s) (cellsOf cells) l (t .listed) b;
     }
 
 -- a sheet that the reader refuses is refused by the check, for the same cause

@@ -83,13 +83,13 @@ differ-turned : (fs : List ℕ) (u v : ℕ) → differ fs u v ≡ differ fs v u
 unfolding differ
 differ-turned fs u v = rw (eqb-turned (freq fs u) (freq fs v))
 
-module _ (ls fs rs ps : List ℕ) where
+module _ (s fs rs ps : List ℕ) where
   -- it says what every rule of the two links says and, without one, what is asked of the frequencies
   pub joins-when : (m a b u v : ℕ) (x : Bool)
-      → ((j : ℕ) → j < m → ofLinks rs a b j ≡ true → allows ls fs rs ps j u v ≡ x)
-      → ((j : ℕ) → j < m → ofLinks rs b a j ≡ true → allows ls fs rs ps j v u ≡ x)
+      → ((j : ℕ) → j < m → ofLinks rs a b j ≡ true → allows s fs rs ps j u v ≡ x)
+      → ((j : ℕ) → j < m → ofLinks rs b a j ≡ true → allows s fs rs ps j v u ≡ x)
       → (((j : ℕ) → j < m → (ofLinks rs a b j ≡ false) × (ofLinks rs b a j ≡ false)) → differ fs u v ≡ x)
-      → joins ls fs rs ps m a b u v ≡ x
+      → joins s fs rs ps m a b u v ≡ x
   unfolding joins
   joins-when zero a b u v x f g h = h (λ j l. absurd (omega arith))
   joins-when (suc m) a b u v x f g h = bool (ofLinks rs a b m)
@@ -100,23 +100,23 @@ module _ (ls fs rs ps : List ℕ) where
       (λ n. h (λ j l. below j m l (n j) (λ q. rw q (e, d)))))))
 
   -- one rule more: of these links, of these links turned round, or of others
-  pub joins-own : (m a b u v : ℕ) → ofLinks rs a b m ≡ true → joins ls fs rs ps (m + 1) a b u v
-      ≡ allows ls fs rs ps m u v
+  pub joins-own : (m a b u v : ℕ) → ofLinks rs a b m ≡ true → joins s fs rs ps (m + 1) a b u v
+      ≡ allows s fs rs ps m u v
   unfolding joins
   joins-own m a b u v h = rw (add-one, h)
 
   pub joins-turn : (m a b u v : ℕ) → ofLinks rs a b m ≡ false → ofLinks rs b a m ≡ true
-      → joins ls fs rs ps (m + 1) a b u v ≡ allows ls fs rs ps m v u
+      → joins s fs rs ps (m + 1) a b u v ≡ allows s fs rs ps m v u
   unfolding joins
   joins-turn m a b u v g h = rw (add-one, g, h)
 
   pub joins-past : (m a b u v : ℕ) → ofLinks rs a b m ≡ false → ofLinks rs b a m ≡ false
-      → joins ls fs rs ps (m + 1) a b u v ≡ joins ls fs rs ps m a b u v
+      → joins s fs rs ps (m + 1) a b u v ≡ joins s fs rs ps m a b u v
   unfolding joins
   joins-past m a b u v g h = rw (add-one, g, h)
 
   -- the same of the links turned round
-  pub joins-turned : (m a b u v : ℕ) → (a ≡ b → ⊥) → joins ls fs rs ps m a b u v ≡ joins ls fs rs ps m b a v u
+  pub joins-turned : (m a b u v : ℕ) → (a ≡ b → ⊥) → joins s fs rs ps m a b u v ≡ joins s fs rs ps m b a v u
   unfolding joins
   joins-turned zero a b u v ne = differ-turned fs u v
   joins-turned (suc m) a b u v ne = bool (ofLinks rs a b m)
@@ -125,7 +125,7 @@ module _ (ls fs rs ps : List ℕ) where
       (λ d. rw (e, d)))
       (λ e. rw (e, joins-turned m a b u v ne))
 
-module _ {ls fs rs ps : List ℕ} {k n q t : ℕ} (P : Parts ls fs rs ps k n q t) where
+module _ {s fs rs ps : List ℕ} {k n q t : ℕ} (P : Parts s fs rs ps k n q t) where
   -- a rule of links a < b is no rule of b and a
   pub not-turned : (a b i : ℕ) → a < b → i < q → ofLinks rs b a i ≡ true → ⊥
   not-turned a b i l h e = let o = rule-links P i h in omega (arith, of-out rs b a i e, o)
@@ -141,8 +141,8 @@ module _ {ls fs rs ps : List ℕ} {k n q t : ℕ} (P : Parts ls fs rs ps k n q t
       go (no l) (no d) = omega arith
 
   -- until rule j its links have no rule
-  pub joins-yet : (j u v : ℕ) → j < q → joins ls fs rs ps j (ruleA rs j) (ruleB rs j) u v ≡ differ fs u v
-  joins-yet j u v l = let o = rule-links P j l in joins-when ls fs rs ps j (ruleA rs j) (ruleB rs j) u v (differ fs u v)
+  pub joins-yet : (j u v : ℕ) → j < q → joins s fs rs ps j (ruleA rs j) (ruleB rs j) u v ≡ differ fs u v
+  joins-yet j u v l = let o = rule-links P j l in joins-when s fs rs ps j (ruleA rs j) (ruleB rs j) u v (differ fs u v)
       (λ i m e. let x = of-out rs (ruleA rs j) (ruleB rs j) i e in
       let z = one-rule i j (omega arith) l (x .0) (x .1) in absurd (omega arith))
       (λ i m e. absurd (not-turned (ruleA rs j) (ruleB rs j) i (o .0) (omega arith) e))
@@ -172,14 +172,14 @@ module _ {ls fs rs ps : List ℕ} {k n q t : ℕ} (P : Parts ls fs rs ps k n q t
         go o (no x) (no d) = omega arith
 
     pub joins-rule : (u v : ℕ) → j < q → ofLinks rs a b j ≡ true
-        → allows ls fs rs ps j u v ≡ joins ls fs rs ps q a b u v
-    joins-rule u v l h = sym (joins-when ls fs rs ps q a b u v (allows ls fs rs ps j u v)
+        → allows s fs rs ps j u v ≡ joins s fs rs ps q a b u v
+    joins-rule u v l h = sym (joins-when s fs rs ps q a b u v (allows s fs rs ps j u v)
         (λ i m e. let x = sought-only i m e in rw x refl)
         (λ i m e. absurd (not-turned a b i order m e))
         (λ n. clash _ h (n j l .0)))
 
-    pub joins-none : (u v : ℕ) → (j < q → ofLinks rs a b j ≡ false) → differ fs u v ≡ joins ls fs rs ps q a b u v
-    joins-none u v h = sym (joins-when ls fs rs ps q a b u v (differ fs u v)
+    pub joins-none : (u v : ℕ) → (j < q → ofLinks rs a b j ≡ false) → differ fs u v ≡ joins s fs rs ps q a b u v
+    joins-none u v h = sym (joins-when s fs rs ps q a b u v (differ fs u v)
         (λ i m e. let x = sought-only i m e in clash (ofLinks rs a b i) e (rw x (h (omega arith))))
         (λ i m e. absurd (not-turned a b i order m e))
         (λ n. refl))

@@ -6,7 +6,7 @@ use mathlib.Core.Bool.{Bool, true, false}
 use lib.ListN.{length}
 use Rattle.sets.specs.Below.{all}
 use Rattle.sheet_rows.specs.Rows.{linkFirst, ruleA, ruleB, ruleCount, ruleValue}
-use Rattle.sheet.specs.Sheet.{kOf, qOf, linkPart, freqPart, rulePart, pairPart, before}
+use Rattle.sheet.specs.Sheet.{kOf, qOf, freqPart, rulePart, pairPart, before}
 use Rattle.sheet.specs.Accepted.{Accepted}
 use Rattle.rules.specs.Layers.{InLink}
 use Rattle.rules.specs.Pairs.{allows, joins, listsPair}
@@ -17,33 +17,33 @@ module _ (s : List ℕ) where
   abbrev pub rowLists : ℕ → ℕ → ℕ → Bool
   rowLists j u v =
       listsPair (pairPart s) (ruleValue (rulePart s) j) (ruleCount (rulePart s) j)
-      (u - linkFirst (linkPart s) (ruleA (rulePart s) j)) (v - linkFirst (linkPart s) (ruleB (rulePart s) j))
+      (u - linkFirst s (ruleA (rulePart s) j)) (v - linkFirst s (ruleB (rulePart s) j))
 
   -- rule row j allows vertex u, of its link a, with vertex v, of its link b
   abbrev pub rowAllows : ℕ → ℕ → ℕ → Bool
-  rowAllows = allows (linkPart s) (freqPart s) (rulePart s) (pairPart s)
+  rowAllows = allows s (freqPart s) (rulePart s) (pairPart s)
 
   -- the frequency x is in the list of link l; its vertex
   abbrev pub inList : ℕ → ℕ → Bool
-  inList = hasFreq (linkPart s) (freqPart s)
+  inList = hasFreq s (freqPart s)
 
   abbrev pub vertexIn : ℕ → ℕ → ℕ
-  vertexIn = vertexOf (linkPart s) (freqPart s)
+  vertexIn = vertexOf s (freqPart s)
 
   -- cell l is in its link's list
   abbrev pub cellListed : List ℕ → ℕ → Bool
-  cellListed cells = inLists (linkPart s) (freqPart s) (cellsOf cells)
+  cellListed cells = inLists s (freqPart s) (cellsOf cells)
 
   -- the pair test of vertex u of link a and vertex v of link b
   abbrev pub joinsIn : ℕ → ℕ → ℕ → ℕ → Bool
-  joinsIn = joins (linkPart s) (freqPart s) (rulePart s) (pairPart s) (qOf s)
+  joinsIn = joins s (freqPart s) (rulePart s) (pairPart s) (qOf s)
 
   -- the pair test allows the cells of links a and b, and that of link a with those of all higher links
   abbrev pub cellsKeep : List ℕ → ℕ → ℕ → Bool
-  cellsKeep cells = pairKept (linkPart s) (freqPart s) (rulePart s) (pairPart s) (qOf s) (cellsOf cells)
+  cellsKeep cells = pairKept s (freqPart s) (rulePart s) (pairPart s) (qOf s) (cellsOf cells)
 
   abbrev pub cellKeeps : List ℕ → ℕ → Bool
-  cellKeeps cells = linkKept (linkPart s) (freqPart s) (rulePart s) (pairPart s) (kOf s) (qOf s) (cellsOf cells)
+  cellKeeps cells = linkKept s (freqPart s) (rulePart s) (pairPart s) (kOf s) (qOf s) (cellsOf cells)
 
 -- rows "rise strictly by (a, b)": the rules before j come before the links a and b
 pub record ComeBefore (rs : List ℕ) (a b j : ℕ) : Type 0 where
@@ -59,8 +59,8 @@ pub record Sought (rs : List ℕ) (q a b j : ℕ) : Type 0 where
 pub record RowAt (s : List ℕ) (j u v : ℕ) : Type 0 where
   pub accepted : Accepted s
   pub among : j < qOf s
-  pub inA : InLink (linkPart s) (ruleA (rulePart s) j) u
-  pub inB : InLink (linkPart s) (ruleB (rulePart s) j) v
+  pub inA : InLink s (ruleA (rulePart s) j) u
+  pub inB : InLink s (ruleB (rulePart s) j) v
 
 -- vertex u of link a and vertex v of a higher link b of an accepted sheet, with the place of their rule
 pub record PairAt (s : List ℕ) (j a b u v : ℕ) : Type 0 where
@@ -68,8 +68,8 @@ pub record PairAt (s : List ℕ) (j a b u v : ℕ) : Type 0 where
   pub order : a < b
   pub within : b < kOf s
   pub sought : Sought (rulePart s) (qOf s) a b j
-  pub inA : InLink (linkPart s) a u
-  pub inB : InLink (linkPart s) b v
+  pub inA : InLink s a u
+  pub inB : InLink s b v
 
 -- cells for every link of an accepted sheet, each in its link's list
 pub record Taken (s cells : List ℕ) : Type 0 where

@@ -7,7 +7,7 @@ use lib.ListN.{length, getD}
 use lib.Dec.{leb, eqb}
 use Rattle.sets.specs.Below.{all, any, first}
 use Rattle.sheet_rows.specs.Rows.{linkFirst, linkCount, freq}
-use Rattle.sheet.specs.Sheet.{kOf, qOf, linkPart, freqPart, rulePart, pairPart}
+use Rattle.sheet.specs.Sheet.{kOf, qOf, freqPart, rulePart, pairPart}
 use Rattle.sheet.specs.Refusal.{causeNumber, passing, refusal}
 use Rattle.rules.specs.Job.{Job}
 use Rattle.rules.specs.Pairs.{joins}
@@ -20,27 +20,27 @@ placeOf fs from count x = first count (λ i. eqb (freq fs (from + i)) x)
 
 -- x is in the list of link l
 unfoldable pub hasFreq : List ℕ → List ℕ → ℕ → ℕ → Bool
-hasFreq ls fs l x = any (linkCount ls l) (λ i. eqb (freq fs (linkFirst ls l + i)) x)
+hasFreq s fs l x = any (linkCount s l) (λ i. eqb (freq fs (linkFirst s l + i)) x)
 
 -- the vertex of the frequency x of link l
 unfoldable pub vertexOf : List ℕ → List ℕ → ℕ → ℕ → ℕ
-vertexOf ls fs l x = linkFirst ls l + placeOf fs (linkFirst ls l) (linkCount ls l) x
+vertexOf s fs l x = linkFirst s l + placeOf fs (linkFirst s l) (linkCount s l) x
 
 -- "An assignment takes for each link one frequency of its list": the one for link l is of its list
 unfoldable pub inLists : List ℕ → List ℕ → (ℕ → ℕ) → ℕ → Bool
-inLists ls fs cells l = hasFreq ls fs l (cells l)
+inLists s fs cells l = hasFreq s fs l (cells l)
 
 -- the pair test allows the frequencies taken for links a and b
 unfoldable pub pairKept : List ℕ → List ℕ → List ℕ → List ℕ → ℕ → (ℕ → ℕ) → ℕ → ℕ → Bool
-pairKept ls fs rs ps q cells a b = joins ls fs rs ps q a b (vertexOf ls fs a (cells a)) (vertexOf ls fs b (cells b))
+pairKept s fs rs ps q cells a b = joins s fs rs ps q a b (vertexOf s fs a (cells a)) (vertexOf s fs b (cells b))
 
 -- it allows that of link a with those of all higher links
 unfoldable pub linkKept : List ℕ → List ℕ → List ℕ → List ℕ → ℕ → ℕ → (ℕ → ℕ) → ℕ → Bool
-linkKept ls fs rs ps k q cells a = all k (λ b. leb b a || pairKept ls fs rs ps q cells a b)
+linkKept s fs rs ps k q cells a = all k (λ b. leb b a || pairKept s fs rs ps q cells a b)
 
 -- an assignment that "keeps every rule": each frequency is of its link's list, and the pair test allows every two
 unfoldable pub keeps : List ℕ → List ℕ → List ℕ → List ℕ → ℕ → ℕ → (ℕ → ℕ) → Bool
-keeps ls fs rs ps k q cells = all k (inLists ls fs cells) && all k (linkKept ls fs rs ps k q cells)
+keeps s fs rs ps k q cells = all k (inLists s fs cells) && all k (linkKept s fs rs ps k q cells)
 
 -- the cells as a frequency for each link
 abbrev pub cellsOf : List ℕ → ℕ → ℕ
@@ -49,7 +49,7 @@ cellsOf cells l = getD cells l 0
 -- the assignment f, a frequency for each link, "keeps every rule" of the job
 unfoldable pub keepsJob : Job → (ℕ → ℕ) → Bool
 keepsJob job f =
-    let s = job .sheet in keeps (linkPart s) (freqPart s) (rulePart s) (pairPart s) (kOf s) (qOf s) f
+    let s = job .sheet in keeps s (freqPart s) (rulePart s) (pairPart s) (kOf s) (qOf s) f
 
 -- "0 for no, 100 for yes"
 abbrev pub yesNo : Bool → ℕ

@@ -4,18 +4,19 @@ ghost use Prim.Native.Nat.{_+_, _*_, _<_, _≤_};
 ghost use mathlib.Core.Bool.{_&&_};
 ghost use lib.Dec.{ltb};
 ghost use lib.ListN.{length};
-ghost use Rattle.sheet_rows.specs.Rows.{HasRow, pairBytes, ruleKind};
+ghost use Rattle.sheet_rows.specs.Rows.{HasRow, HasLink, ruleBytes, pairBytes, ruleA, ruleB, ruleKind};
 ghost use Rattle.sheet.specs.Sheet.{qOf, rulePart};
 ghost use Rattle.sheet.specs.Accepted.{Accepted};
-ghost use Rattle.rules.specs.Pairs.{distance as distanceOf, samePair, listsPair, agree as agreeOf, ofLinks};
+ghost use Rattle.rules.specs.Pairs.{distance as distanceOf, samePair, listsPair, spaced as spacedBy};
+ghost use Rattle.rules.specs.Pairs.{agree as agreeOf, ruleWidths, ofLinks};
 ghost use Rattle.rules.specs.Asked.{RowAt, PairAt, rowLists, rowAllows, joinsIn};
 use crate::parts::freq_part;
-use crate::parts::link_part;
 use crate::parts::pair_part;
 use crate::parts::rule_part;
 use sheet::rules_of;
 use sheet_rows::freq;
 use sheet_rows::link_first;
+use sheet_rows::link_width;
 use sheet_rows::pair_first;
 use sheet_rows::pair_second;
 use sheet_rows::rule_a;
@@ -54,12 +55,24 @@ fn lists_pair(p: &[u8], base: usize, count: usize, x: usize, y: usize) -> bool
     false
 }
 
-// What a rule of a kind and value says of two frequencies so far apart, whose positions are listed or not.
-pub fn agree(kind: usize, value: usize, apart: usize, listed: bool) -> bool
-    ensures { λ r. ⌜ r ≡ agreeOf kind value apart listed ⌝ }
+// Whether frequencies so far apart leave the value between the edges. Half the widths, rounded up, is what they take of
+// a whole number of kHz, so that no number has to be doubled.
+fn spaced(value: usize, widths: usize, apart: usize) -> bool
+    ensures { λ r. ⌜ r ≡ spacedBy value widths apart ⌝ }
+{
+    if apart < value {
+        return false;
+    }
+    widths / 2 + widths % 2 <= apart - value
+}
+
+// What a rule of a kind and value says of two frequencies so far apart, whose positions are listed or not, of links
+// with these widths together.
+pub fn agree(kind: usize, value: usize, widths: usize, apart: usize, listed: bool) -> bool
+    ensures { λ r. ⌜ r ≡ agreeOf kind value widths apart listed ⌝ }
 {
     if kind == 1 {
-        return value <= apart;
+        return spaced(value, widths, apart);
     }
     if kind == 2 {
         return apart == value;
@@ -75,14 +88,21 @@ fn lists_vertices(s: &[u8], j: usize, u: usize, v: usize) -> bool
     requires { ⌜ RowAt (now s) j u v × (ruleKind (rulePart (now s)) j ≡ 3) ⌝ }
     ensures { λ r. ⌜ r ≡ rowLists (now (s .entry)) j u v ⌝ }
 {
-    let ls = link_part(s);
     let rs = rule_part(s);
-    let x = u - link_first(ls, rule_a(rs, j));
-    let y = v - link_first(ls, rule_b(rs, j));
+    let x = u - link_first(s, rule_a(rs, j));
+    let y = v - link_first(s, rule_b(rs, j));
     let ps = pair_part(s);
     let base = rule_value(rs, j);
     let count = rule_count(rs, j);
     lists_pair(ps, base, count, x, y)
+}
+
+// The widths of the two links of rule row j together.
+fn rule_widths(s: &[u8], rs: &[u8], j: usize) -> usize
+    requires { ⌜ HasRow ruleBytes (now rs) j × HasLink (now s) (ruleA (now rs) j) × HasLink (now s) (ruleB (now rs) j) ⌝ }
+    ensures { λ r. ⌜ r ≡ ruleWidths (now (s .entry)) (now (rs .entry)) j ⌝ }
+{
+    link_width(s, rule_a(rs, j)) + link_width(s, rule_b(rs, j))
 }
 
 // Whether rule row j allows vertex u, of its link a, with vertex v, of its link b.
@@ -94,10 +114,11 @@ fn row_allows(s: &[u8], j: usize, u: usize, v: usize) -> bool
     let kind = rule_kind(rs, j);
     let value = rule_value(rs, j);
     if kind == 3 {
-        return agree(kind, value, 0, lists_vertices(s, j, u, v));
+        return agree(kind, value, 0, 0, lists_vertices(s, j, u, v));
     }
     let fs = freq_part(s);
-    agree(kind, value, distance(freq(fs, u), freq(fs, v)), false)
+    let apart = distance(freq(fs, u), freq(fs, v));
+    agree(kind, value, rule_widths(s, rs, j), apart, false)
 }
 
 // Whether there is a rule row j, and it is of the links a and b.

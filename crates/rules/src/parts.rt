@@ -1,18 +1,10 @@
-// The sections of an accepted sheet, each the part of the sheet that begins at its offset.
+// The sections of an accepted sheet after its link section, each the part of the sheet that begins at its offset.
 ghost use mathlib.Core.Path.{_≡_};
-ghost use Rattle.sheet.specs.Sheet.{linkPart, freqPart, rulePart, pairPart};
+ghost use Rattle.sheet.specs.Sheet.{freqPart, rulePart, pairPart};
 ghost use Rattle.sheet.specs.Accepted.{Accepted};
 use sheet::freqs_at;
 use sheet::pairs_at;
 use sheet::rules_at;
-
-// The link section.
-pub fn link_part(s: &[u8]) -> &[u8]
-    requires { ⌜ Accepted (now s) ⌝ }
-    ensures { λ r. ⌜ now r ≡ linkPart (now (s .entry)) ⌝ }
-{
-    &s[40..]
-}
 
 // The frequency section.
 pub fn freq_part(s: &[u8]) -> &[u8]

@@ -12,7 +12,6 @@ ghost use Rattle.rules.specs.Plans.{placeOf, cellsOf, keepsJob};
 ghost use Rattle.rules.specs.Asked.{Taken, Sought, inList, vertexIn, cellListed, cellsKeep, cellKeeps};
 use crate::pairs::joined;
 use crate::parts::freq_part;
-use crate::parts::link_part;
 use crate::seek::seek_rule;
 use sheet::links_of;
 use sheet_rows::freq;
@@ -46,9 +45,8 @@ fn has_freq(s: &[u8], l: usize, x: usize) -> bool
     requires { ⌜ Accepted (now s) × (l < kOf (now s)) ⌝ }
     ensures { λ r. ⌜ r ≡ inList (now (s .entry)) l x ⌝ }
 {
-    let ls = link_part(s);
-    let count = link_count(ls, l);
-    place(freq_part(s), link_first(ls, l), count, x) < count
+    let count = link_count(s, l);
+    place(freq_part(s), link_first(s, l), count, x) < count
 }
 
 // The vertex of the frequency x of link l.
@@ -56,9 +54,8 @@ fn vertex(s: &[u8], l: usize, x: usize) -> usize
     requires { ⌜ Accepted (now s) × (l < kOf (now s)) × (inList (now s) l x ≡ true) ⌝ }
     ensures { λ r. ⌜ r ≡ vertexIn (now (s .entry)) l x ⌝ }
 {
-    let ls = link_part(s);
-    let from = link_first(ls, l);
-    from + place(freq_part(s), from, link_count(ls, l), x)
+    let from = link_first(s, l);
+    from + place(freq_part(s), from, link_count(s, l), x)
 }
 
 // Whether cell l is in the list of link l.

@@ -1,5 +1,4 @@
 pub mod Causes
-pub mod Parts
 pub mod Links
 pub mod Rules
 pub mod Accepted

@@ -8,9 +8,10 @@ use lib.Dec.{eqb, ltb}
 use borrow.Author.Tests.{eqb-true, ltb-true}
 use Rattle.sets.specs.Below.{all, sumTo}
 use Rattle.sets.proofs.Tests.{and-out}
-use Rattle.sets.proofs.Below.{all-out, all-false, sum-in}
-use Rattle.sheet_rows.specs.Rows.{linkFirst, linkCount}
-use Rattle.sheet.specs.Sheet.{linkRowOk, linkOk, linksOk, RowRead, rowRead, rowIf, linkRow}
+use Rattle.sets.proofs.Below.{all-in, all-out, all-false, sum-in}
+use Rattle.sheet_rows.specs.Rows.{rowFirst, rowCount, linkBytes, linkPart, linkFirst, linkCount}
+use Rattle.sheet.specs.Sheet.{linkRowOk, linkOk, linkRowsOk, linksOk, RowRead, rowRead, rowIf, linkRow}
+use Rattle.sheet.specs.Sheet.{widthOk, widthRowsOk, widthsOk}
 use Rattle.sheet.specs.declared.Row.the-variants.{Link, Bad}
 
 picked-link : (b : Bool) (f n g m : ℕ) → rowRead (Link g m) ≡ rowIf b f n → (b ≡ true) × (n ≡ m)
@@ -22,45 +23,55 @@ picked-bad true f n e = let z : _≡_ {A = ℕ} 5 0 = ap (λ (r : RowRead). r .n
 picked-bad false f n e = refl
 
 -- a row that was read is right at its place, or not
-pub row-link : (p : List ℕ) (l sum g m : ℕ) → sum ≡ sumTo l (linkCount p) → rowRead (Link g m) ≡ linkRow p l sum
-    → (linkOk p l ≡ true) × (linkCount p l ≡ m)
+pub row-link : (bytes : ℕ) (p : List ℕ) (l sum g m : ℕ) → sum ≡ sumTo l (rowCount bytes p)
+    → rowRead (Link g m) ≡ linkRow bytes p l sum → (linkOk bytes p l ≡ true) × (rowCount bytes p l ≡ m)
 unfolding linkOk
-row-link p l sum g m e h =
-    let o = picked-link (linkRowOk p l sum) (linkFirst p l) (linkCount p l) g m h in (rw (← e) (o .0), o .1)
+row-link bytes p l sum g m e h =
+    let o = picked-link (linkRowOk bytes p l sum) (rowFirst bytes p l) (rowCount bytes p l) g m h in
+    (rw (← e) (o .0), o .1)
 
-pub row-bad : (p : List ℕ) (l sum : ℕ) → sum ≡ sumTo l (linkCount p) → rowRead Bad ≡ linkRow p l sum
-    → linkOk p l ≡ false
+pub row-bad : (bytes : ℕ) (p : List ℕ) (l sum : ℕ) → sum ≡ sumTo l (rowCount bytes p)
+    → rowRead Bad ≡ linkRow bytes p l sum → linkOk bytes p l ≡ false
 unfolding linkOk
-row-bad p l sum e h = rw (← e) (picked-bad (linkRowOk p l sum) (linkFirst p l) (linkCount p l) h)
+row-bad bytes p l sum e h =
+    rw (← e) (picked-bad (linkRowOk bytes p l sum) (rowFirst bytes p l) (rowCount bytes p l) h)
 
-pub links-false : (p : List ℕ) (k n l : ℕ) → l < k → linkOk p l ≡ false → linksOk p k n ≡ false
-unfolding linksOk
-links-false p k n l h e = rw (all-false k (linkOk p) l h e)
+pub links-false : (bytes : ℕ) (p : List ℕ) (k n l : ℕ) → l < k → linkOk bytes p l ≡ false
+    → linkRowsOk bytes p k n ≡ false
+unfolding linkRowsOk
+links-false bytes p k n l h e = rw (all-false k (linkOk bytes p) l h e)
 
-pub links-are : (p : List ℕ) (k n l sum : ℕ) (b : Bool) → l ≡ k → all l (linkOk p) ≡ true → sum ≡ sumTo l (linkCount p)
-    → eqb sum n ≡ b → linksOk p k n ≡ b
-unfolding linksOk
-links-are p k n l sum b q h e d = rw (← q, h, ← e) d
+pub links-are : (bytes : ℕ) (p : List ℕ) (k n l sum : ℕ) (b : Bool) → l ≡ k → all l (linkOk bytes p) ≡ true
+    → sum ≡ sumTo l (rowCount bytes p) → eqb sum n ≡ b → linkRowsOk bytes p k n ≡ b
+unfolding linkRowsOk
+links-are bytes p k n l sum b q h e d = rw (← q, h, ← e) d
 
--- of an accepted section
-module _ (p : List ℕ) (k n : ℕ) (ok : linksOk p k n ≡ true) where
-  link-row : (l : ℕ) → l < k → (eqb (linkFirst p l) (sumTo l (linkCount p)) ≡ true) × (ltb 0 (linkCount p l) ≡ true)
-  unfolding linksOk linkOk
+-- of a sheet whose link section is accepted
+module _ (s : List ℕ) (k n : ℕ) (ok : linksOk s k n ≡ true) where
+  link-row : (l : ℕ) → l < k → (eqb (linkFirst s l) (sumTo l (linkCount s)) ≡ true) × (ltb 0 (linkCount s l) ≡ true)
+  unfolding linksOk linkRowsOk linkOk linkFirst linkCount
   link-row l b =
-      let w = and-out (all k (linkOk p)) (eqb (sumTo k (linkCount p)) n) ok in
-      and-out (eqb (linkFirst p l) (sumTo l (linkCount p))) (ltb 0 (linkCount p l)) (all-out k (linkOk p) (w .0) l b)
+      let w = and-out (all k (linkOk (linkBytes s) (linkPart s))) (eqb (sumTo k (linkCount s)) n) ok in
+      and-out (eqb (linkFirst s l) (sumTo l (linkCount s))) (ltb 0 (linkCount s l))
+      (all-out k (linkOk (linkBytes s) (linkPart s)) (w .0) l b)
 
   -- a link's first frequency is the sum of the earlier counts, and all counts sum to n
-  pub link-first : (l : ℕ) → l < k → linkFirst p l ≡ sumTo l (linkCount p)
-  link-first l b = eqb-true (linkFirst p l) (sumTo l (linkCount p)) (link-row l b .0)
+  pub link-first : (l : ℕ) → l < k → linkFirst s l ≡ sumTo l (linkCount s)
+  link-first l b = eqb-true (linkFirst s l) (sumTo l (linkCount s)) (link-row l b .0)
 
-  pub link-sum : sumTo k (linkCount p) ≡ n
-  unfolding linksOk
-  link-sum = eqb-true (sumTo k (linkCount p)) n (and-out (all k (linkOk p)) (eqb (sumTo k (linkCount p)) n) ok .1)
+  pub link-sum : sumTo k (linkCount s) ≡ n
+  unfolding linksOk linkRowsOk linkCount
+  link-sum = eqb-true (sumTo k (linkCount s)) n
+      (and-out (all k (linkOk (linkBytes s) (linkPart s))) (eqb (sumTo k (linkCount s)) n) ok .1)
 
   -- a link has a frequency, and its frequencies are among the n
-  pub link-some : (l : ℕ) → l < k → 0 < linkCount p l
-  link-some l b = ltb-true 0 (linkCount p l) (link-row l b .1)
+  pub link-some : (l : ℕ) → l < k → 0 < linkCount s l
+  link-some l b = ltb-true 0 (linkCount s l) (link-row l b .1)
 
-  pub link-in : (l : ℕ) → l < k → linkFirst p l + linkCount p l ≤ n
-  link-in l b = omega (arith, link-sum, link-first l b, sum-in k l (linkCount p) b)
+  pub link-in : (l : ℕ) → l < k → linkFirst s l + linkCount s l ≤ n
+  link-in l b = omega (arith, link-sum, link-first l b, sum-in k l (linkCount s) b)
+
+-- rows of four bytes have no widths
+pub no-widths : (s : List ℕ) (k : ℕ) → linkBytes s ≡ 4 → widthsOk s k ≡ true
+unfolding widthsOk widthRowsOk widthOk
+no-widths s k e = rw e (all-in k _ (λ l h. refl))

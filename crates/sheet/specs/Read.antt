@@ -4,27 +4,27 @@ use mathlib.Core.Path.{_≡_}
 use mathlib.Core.List.{List}
 use mathlib.Core.Bool.{true}
 use lib.ListN.{length}
-use Rattle.sheet_rows.specs.Rows.{linkBytes, freqBytes, ruleBytes, pairBytes}
+use Rattle.sheet_rows.specs.Rows.{HasLinks, freqBytes, ruleBytes, pairBytes}
 use Rattle.sheet.specs.Sheet.{linksOk, rulesOk}
 
--- k link rows, and the frequency rows that they count
-pub record LinksRead (ls fs : List ℕ) (k : ℕ) : Type 0 where
+-- k link rows of the sheet, and the frequency rows that they count
+pub record LinksRead (s fs : List ℕ) (k : ℕ) : Type 0 where
   pub n : ℕ
-  pub link-rows : linkBytes * k ≤ length ls
+  pub link-rows : HasLinks s k
   pub freq-rows : freqBytes * n ≤ length fs
-  pub links : linksOk ls k n ≡ true
+  pub links : linksOk s k n ≡ true
 
--- q rule rows, and the link rows and pair rows that they name
-pub record RulesRead (ls rs ps : List ℕ) (q : ℕ) : Type 0 where
+-- q rule rows, and the link rows of the sheet and the pair rows that they name
+pub record RulesRead (s rs ps : List ℕ) (q : ℕ) : Type 0 where
   pub k : ℕ
   pub t : ℕ
-  pub link-rows : linkBytes * k ≤ length ls
+  pub link-rows : HasLinks s k
   pub rule-rows : ruleBytes * q ≤ length rs
   pub pair-rows : pairBytes * t ≤ length ps
   pub rules : rulesOk rs k q t ≡ true
 
 -- rule row j of such a section
-pub record RuleRead (ls rs ps : List ℕ) (j : ℕ) : Type 0 where
+pub record RuleRead (s rs ps : List ℕ) (j : ℕ) : Type 0 where
   pub q : ℕ
   pub among : j < q
-  pub read : RulesRead ls rs ps q
+  pub read : RulesRead s rs ps q

@@ -1,5 +1,5 @@
 -- The job sheet, as a list of bytes: its limits, its header, where its sections begin, and what each row has to say.
--- The rows' fields are those of `Rows`, crate `sheet_rows`.
+-- The rows' fields are those of `Rows`, and what goes by the form is in `Form`, crate `sheet_rows`.
 use Prim.Native.Nat.{ℕ, _+_, _-_, _*_}
 use mathlib.Core.List.{List}
 use mathlib.Core.Bool.{Bool, true, false, cond, not, _&&_, _||_}
@@ -7,19 +7,14 @@ use lib.ListN.{drop}
 use lib.Dec.{ltb, leb, eqb}
 use Rattle.sets.specs.Below.{all, sumTo}
 use Rattle.wire.specs.Fields.{le32}
-use Rattle.sheet_rows.specs.Rows.{linkBytes, freqBytes, ruleBytes, pairBytes}
+use Rattle.sheet_rows.specs.Rows.{headerBytes, linkBytes, linkPart, freqBytes, ruleBytes, pairBytes}
+use Rattle.sheet_rows.specs.Rows.{rowFirst, rowCount, rowWidth}
 use Rattle.sheet_rows.specs.Rows.{linkFirst, linkCount, freq, ruleA, ruleB, ruleKind, ruleCount, ruleValue}
 use Rattle.sheet_rows.specs.Rows.{pairFirst, pairSecond}
 use Rattle.sheet.specs.declared.Row.{Row}
 use Rattle.sheet.specs.declared.Row.the-variants.{Link, Bad}
 
--- "k is 1 to 64, n 1 to 512, q at most 2,016, t at most 8,192"
-abbrev pub mostLinks : ℕ
-mostLinks = 64
-
-abbrev pub mostFreqs : ℕ
-mostFreqs = 512
-
+-- "q at most 2,016, t at most 8,192"
 abbrev pub mostRules : ℕ
 mostRules = 2016
 
@@ -30,9 +25,9 @@ mostPairs = 8192
 abbrev pub mostKHz : ℕ
 mostKHz = 9999999
 
--- "The header has ten 32-bit fields"
-abbrev pub headerBytes : ℕ
-headerBytes = 40
+-- "a 32-bit width in kHz, 1 to 20,000"
+abbrev pub mostWidth : ℕ
+mostWidth = 20000
 
 -- the header: "form (1), links k, frequencies n, rules q, pairs t", then offsets and length
 abbrev pub kOf : List ℕ → ℕ
@@ -47,49 +42,61 @@ qOf s = le32 s 12
 abbrev pub tOf : List ℕ → ℕ
 tOf s = le32 s 16
 
--- "the offsets are 40, 40 + 4k, that + 4n, that + 12q, and the length is that + 4t"
-abbrev pub freqsAt : ℕ → ℕ
-freqsAt k = headerBytes + linkBytes * k
+-- "the offsets are 40, 40 + 4k, that + 4n, that + 12q, and the length is that + 4t", with link rows of 4 bytes; of
+-- longer ones "later offsets move"
+abbrev pub freqsAt : ℕ → ℕ → ℕ
+freqsAt bytes k = headerBytes + bytes * k
 
-abbrev pub rulesAt : ℕ → ℕ → ℕ
-rulesAt k n = freqsAt k + freqBytes * n
+abbrev pub rulesAt : ℕ → ℕ → ℕ → ℕ
+rulesAt bytes k n = freqsAt bytes k + freqBytes * n
 
-abbrev pub pairsAt : ℕ → ℕ → ℕ → ℕ
-pairsAt k n q = rulesAt k n + ruleBytes * q
+abbrev pub pairsAt : ℕ → ℕ → ℕ → ℕ → ℕ
+pairsAt bytes k n q = rulesAt bytes k n + ruleBytes * q
 
-abbrev pub endAt : ℕ → ℕ → ℕ → ℕ → ℕ
-endAt k n q t = pairsAt k n q + pairBytes * t
+abbrev pub endAt : ℕ → ℕ → ℕ → ℕ → ℕ → ℕ
+endAt bytes k n q t = pairsAt bytes k n q + pairBytes * t
 
--- "Each section is read as the part of the sheet that begins at its offset"
-abbrev pub linkPart : List ℕ → List ℕ
-linkPart s = drop headerBytes s
-
+-- "Each section is read as the part of the sheet that begins at its offset"; the first is `linkPart`
 abbrev pub freqPart : List ℕ → List ℕ
-freqPart s = drop (freqsAt (kOf s)) s
+freqPart s = drop (freqsAt (linkBytes s) (kOf s)) s
 
 abbrev pub rulePart : List ℕ → List ℕ
-rulePart s = drop (rulesAt (kOf s) (nOf s)) s
+rulePart s = drop (rulesAt (linkBytes s) (kOf s) (nOf s)) s
 
 abbrev pub pairPart : List ℕ → List ℕ
-pairPart s = drop (pairsAt (kOf s) (nOf s) (qOf s)) s
+pairPart s = drop (pairsAt (linkBytes s) (kOf s) (nOf s) (qOf s)) s
 
 -- a number where a test holds, else 0
 abbrev pub only : Bool → ℕ → ℕ
 only true n = n
 only false n = 0
 
--- link rows
+-- link rows, of so many bytes each
 
 -- "First is the sum of earlier counts; count is at least 1", where `sum` is that sum
-abbrev pub linkRowOk : List ℕ → ℕ → ℕ → Bool
-linkRowOk p l sum = eqb (linkFirst p l) sum && ltb 0 (linkCount p l)
+abbrev pub linkRowOk : ℕ → List ℕ → ℕ → ℕ → Bool
+linkRowOk bytes p l sum = eqb (rowFirst bytes p l) sum && ltb 0 (rowCount bytes p l)
 
-unfoldable pub linkOk : List ℕ → ℕ → Bool
-linkOk p l = linkRowOk p l (sumTo l (linkCount p))
+unfoldable pub linkOk : ℕ → List ℕ → ℕ → Bool
+linkOk bytes p l = linkRowOk bytes p l (sumTo l (rowCount bytes p))
 
 -- "all counts sum to n"
+unfoldable pub linkRowsOk : ℕ → List ℕ → ℕ → ℕ → Bool
+linkRowsOk bytes p k n = all k (linkOk bytes p) && eqb (sumTo k (rowCount bytes p)) n
+
+-- "a 32-bit width in kHz, 1 to 20,000", where the rows have one
+unfoldable pub widthOk : ℕ → List ℕ → ℕ → Bool
+widthOk bytes p l = ltb bytes 8 || (ltb 0 (rowWidth bytes p l) && leb (rowWidth bytes p l) mostWidth)
+
+unfoldable pub widthRowsOk : ℕ → List ℕ → ℕ → Bool
+widthRowsOk bytes p k = all k (widthOk bytes p)
+
+-- the link section of a sheet, of k links and n frequencies, and its widths
 unfoldable pub linksOk : List ℕ → ℕ → ℕ → Bool
-linksOk p k n = all k (linkOk p) && eqb (sumTo k (linkCount p)) n
+linksOk s k n = linkRowsOk (linkBytes s) (linkPart s) k n
+
+unfoldable pub widthsOk : List ℕ → ℕ → Bool
+widthsOk s k = widthRowsOk (linkBytes s) (linkPart s) k
 
 -- a link row that was read: the paper's number, 0 or refusal 5, and the row's first frequency and count, both 0 where
 -- it is refused
@@ -109,8 +116,8 @@ rowIf right first count =
     record { number = only (not right) 5; first = only right first; count = only right count }
 
 -- what row l is to say, where `sum` is the sum of earlier counts
-abbrev pub linkRow : List ℕ → ℕ → ℕ → RowRead
-linkRow p l sum = rowIf (linkRowOk p l sum) (linkFirst p l) (linkCount p l)
+abbrev pub linkRow : ℕ → List ℕ → ℕ → ℕ → RowRead
+linkRow bytes p l sum = rowIf (linkRowOk bytes p l sum) (rowFirst bytes p l) (rowCount bytes p l)
 
 -- frequencies
 
@@ -120,12 +127,12 @@ freqOk p base i =
     ltb 0 (freq p (base + i)) && leb (freq p (base + i)) mostKHz
     && (eqb i 0 || ltb (freq p (base + i - 1)) (freq p (base + i)))
 
--- the frequencies of link l
+-- the frequencies of link l of the sheet, whose frequency section is p
 unfoldable pub linkFreqsOk : List ℕ → List ℕ → ℕ → Bool
-linkFreqsOk links p l = all (linkCount links l) (freqOk p (linkFirst links l))
+linkFreqsOk s p l = all (linkCount s l) (freqOk p (linkFirst s l))
 
 unfoldable pub freqsOk : List ℕ → List ℕ → ℕ → Bool
-freqsOk links p k = all k (linkFreqsOk links p)
+freqsOk s p k = all k (linkFreqsOk s p)
 
 -- rule rows
 
@@ -177,11 +184,11 @@ pairOk p base m n i =
     ltb (pairFirst p (base + i)) m && ltb (pairSecond p (base + i)) n
     && (eqb i 0 || pairRises p (base + i))
 
--- the pairs of rule j
+-- the pairs of rule j of the sheet, whose rule and pair sections are `rules` and p
 unfoldable pub rulePairsOk : List ℕ → List ℕ → List ℕ → ℕ → Bool
-rulePairsOk links rules p j =
+rulePairsOk s rules p j =
     all (listed rules j)
-    (pairOk p (ruleValue rules j) (linkCount links (ruleA rules j)) (linkCount links (ruleB rules j)))
+    (pairOk p (ruleValue rules j) (linkCount s (ruleA rules j)) (linkCount s (ruleB rules j)))
 
 unfoldable pub pairsOk : List ℕ → List ℕ → List ℕ → ℕ → Bool
-pairsOk links rules p q = all q (rulePairsOk links rules p)
+pairsOk s rules p q = all q (rulePairsOk s rules p)

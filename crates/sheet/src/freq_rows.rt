@@ -39,15 +39,15 @@ fn rising(p: &[u8], base: usize, count: usize) -> bool
     true
 }
 
-// The frequency section `p`, after the link section `ls` was accepted.
-pub fn freqs(ls: &[u8], p: &[u8], k: usize) -> bool
-    requires { ⌜ LinksRead (now ls) (now p) k ⌝ }
-    ensures { λ r. ⌜ r ≡ freqsOk (now (ls .entry)) (now (p .entry)) k ⌝ }
+// The frequency section `p` of the sheet s, after its link section was accepted.
+pub fn freqs(s: &[u8], p: &[u8], k: usize) -> bool
+    requires { ⌜ LinksRead (now s) (now p) k ⌝ }
+    ensures { λ r. ⌜ r ≡ freqsOk (now (s .entry)) (now (p .entry)) k ⌝ }
 {
     let mut l = 0;
     while l < k {
-        let first = link_first(ls, l);
-        let count = link_count(ls, l);
+        let first = link_first(s, l);
+        let count = link_count(s, l);
         if !rising(p, first, count) {
             return false;
         }

@@ -2,7 +2,7 @@
 ghost use mathlib.Core.Path.{_≡_};
 ghost use Prim.Native.Nat.{_≤_};
 ghost use lib.ListN.{length};
-ghost use Rattle.sheet.specs.Sheet.{headerBytes};
+ghost use Rattle.sheet_rows.specs.Rows.{headerBytes};
 ghost use Rattle.sheet.specs.Refusal.{formOk, linkCountOk, countsOk, offsetsOk};
 use crate::places::end_at;
 use crate::places::freqs_at;
@@ -12,11 +12,8 @@ use crate::places::pairs_at;
 use crate::places::pairs_of;
 use crate::places::rules_at;
 use crate::places::rules_of;
+use sheet_rows::form_of;
 use wire::word;
-
-const MOST_LINKS: usize = 64;
-
-const MOST_FREQS: usize = 512;
 
 const MOST_RULES: usize = 2016;
 
@@ -24,32 +21,37 @@ const MOST_PAIRS: usize = 8192;
 
 pub const MOST_KHZ: usize = 9999999;
 
-// Cause 1: under 40 bytes, or form not 1.
+pub const MOST_WIDTH: usize = 20000;
+
+// Cause 1: under 40 bytes, or no form of this number.
 pub fn form_ok(s: &[u8]) -> bool
     ensures { λ r. ⌜ r ≡ formOk (now (s .entry)) ⌝ }
 {
     if s.len() < 40 {
         return false;
     }
-    word(s, 0) == 1
+    let form = form_of(s);
+    form.known
 }
 
-// Cause 2: k.
+// Cause 2: k, by the form.
 pub fn link_count_ok(s: &[u8]) -> bool
     requires { ⌜ headerBytes ≤ length (now s) ⌝ }
     ensures { λ r. ⌜ r ≡ linkCountOk (now (s .entry)) ⌝ }
 {
+    let form = form_of(s);
     let k = links_of(s);
-    (0 < k) & (k <= MOST_LINKS)
+    (0 < k) & (k <= form.links)
 }
 
-// Cause 3: n, q and t.
+// Cause 3: n, by the form, q and t.
 pub fn counts_ok(s: &[u8]) -> bool
     requires { ⌜ headerBytes ≤ length (now s) ⌝ }
     ensures { λ r. ⌜ r ≡ countsOk (now (s .entry)) ⌝ }
 {
+    let form = form_of(s);
     let n = freqs_of(s);
-    (0 < n) & (n <= MOST_FREQS) & (rules_of(s) <= MOST_RULES) & (pairs_of(s) <= MOST_PAIRS)
+    (0 < n) & (n <= form.freqs) & (rules_of(s) <= MOST_RULES) & (pairs_of(s) <= MOST_PAIRS)
 }
 
 // Cause 4: the offsets and the length.

@@ -1,5 +1,6 @@
 // The reader of job sheets: accepted, or the first cause that refuses the sheet; and where its counts and sections are.
-// The contracts cite `Sheet`, what header and rows have to say, and `Refusal`, the causes 1 to 8 in the order tested.
+// The contracts cite `Sheet`, what header and rows have to say, and `Refusal`, the causes 1 to 8 and 16 in the order
+// tested.
 mod freq_rows;
 mod header;
 mod link_rows;
@@ -31,6 +32,7 @@ pub enum Cause {
     Counts,
     Offsets,
     LinkRow,
+    Width,
     Frequency,
     RuleRow,
     PairRow,
@@ -58,6 +60,7 @@ pub fn cause_number(c: Cause) -> u32
         Cause::Counts => 3,
         Cause::Offsets => 4,
         Cause::LinkRow => 5,
+        Cause::Width => 16,
         Cause::Frequency => 6,
         Cause::RuleRow => 7,
         Cause::PairRow => 8,

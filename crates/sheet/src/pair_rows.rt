@@ -57,10 +57,10 @@ fn pairs_rise(p: &[u8], base: usize, m: usize, n: usize, count: usize) -> bool
     true
 }
 
-// The pairs of rule j, after the rule section `rs` was accepted.
-fn rule_pairs(ls: &[u8], rs: &[u8], p: &[u8], j: usize) -> bool
-    requires { ⌜ RuleRead (now ls) (now rs) (now p) j ⌝ }
-    ensures { λ r. ⌜ r ≡ rulePairsOk (now (ls .entry)) (now (rs .entry)) (now (p .entry)) j ⌝ }
+// The pairs of rule j of the sheet s, after the rule section `rs` was accepted.
+fn rule_pairs(s: &[u8], rs: &[u8], p: &[u8], j: usize) -> bool
+    requires { ⌜ RuleRead (now s) (now rs) (now p) j ⌝ }
+    ensures { λ r. ⌜ r ≡ rulePairsOk (now (s .entry)) (now (rs .entry)) (now (p .entry)) j ⌝ }
 {
     let count = listed(rs, j);
     if count == 0 {
@@ -69,19 +69,19 @@ fn rule_pairs(ls: &[u8], rs: &[u8], p: &[u8], j: usize) -> bool
     let a = rule_a(rs, j);
     let b = rule_b(rs, j);
     let base = rule_value(rs, j);
-    let m = link_count(ls, a);
-    let n = link_count(ls, b);
+    let m = link_count(s, a);
+    let n = link_count(s, b);
     pairs_rise(p, base, m, n, count)
 }
 
-// The pair section `p`, after the link section `ls` and the rule section `rs` were accepted.
-pub fn pairs(ls: &[u8], rs: &[u8], p: &[u8], q: usize) -> bool
-    requires { ⌜ RulesRead (now ls) (now rs) (now p) q ⌝ }
-    ensures { λ r. ⌜ r ≡ pairsOk (now (ls .entry)) (now (rs .entry)) (now (p .entry)) q ⌝ }
+// The pair section `p` of the sheet s, after its link section and its rule section `rs` were accepted.
+pub fn pairs(s: &[u8], rs: &[u8], p: &[u8], q: usize) -> bool
+    requires { ⌜ RulesRead (now s) (now rs) (now p) q ⌝ }
+    ensures { λ r. ⌜ r ≡ pairsOk (now (s .entry)) (now (rs .entry)) (now (p .entry)) q ⌝ }
 {
     let mut j = 0;
     while j < q {
-        if !rule_pairs(ls, rs, p, j) {
+        if !rule_pairs(s, rs, p, j) {
             return false;
         }
         j += 1;

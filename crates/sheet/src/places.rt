@@ -2,7 +2,9 @@
 ghost use mathlib.Core.Path.{_≡_};
 ghost use Prim.Native.Nat.{_<_, _≤_};
 ghost use lib.ListN.{length};
-ghost use Rattle.sheet.specs.Sheet.{headerBytes, kOf, nOf, qOf, tOf, freqsAt, rulesAt, pairsAt, endAt};
+ghost use Rattle.sheet_rows.specs.Rows.{headerBytes, linkBytes};
+ghost use Rattle.sheet.specs.Sheet.{kOf, nOf, qOf, tOf, freqsAt, rulesAt, pairsAt, endAt};
+use sheet_rows::link_bytes;
 use wire::word;
 
 // The number of links, k.
@@ -40,15 +42,16 @@ pub fn pairs_of(s: &[u8]) -> usize
 // Where the frequency section begins.
 pub fn freqs_at(s: &[u8]) -> usize
     requires { ⌜ headerBytes ≤ length (now s) ⌝ }
-    ensures { λ r. ⌜ (r ≡ freqsAt (kOf (now (s .entry)))) × (r < 34359738368) ⌝ }
+    ensures { λ r. ⌜ (r ≡ freqsAt (linkBytes (now (s .entry))) (kOf (now (s .entry)))) × (r < 68719476736) ⌝ }
 {
-    40 + 4 * links_of(s)
+    40 + link_bytes(s) * links_of(s)
 }
 
 // Where the rule section begins.
 pub fn rules_at(s: &[u8]) -> usize
     requires { ⌜ headerBytes ≤ length (now s) ⌝ }
-    ensures { λ r. ⌜ (r ≡ rulesAt (kOf (now (s .entry))) (nOf (now (s .entry)))) × (r < 68719476736) ⌝ }
+    ensures { λ r. ⌜ (r ≡ rulesAt (linkBytes (now (s .entry))) (kOf (now (s .entry))) (nOf (now (s .entry))))
+        × (r < 137438953472) ⌝ }
 {
     freqs_at(s) + 4 * freqs_of(s)
 }
@@ -56,8 +59,8 @@ pub fn rules_at(s: &[u8]) -> usize
 // Where the pair section begins.
 pub fn pairs_at(s: &[u8]) -> usize
     requires { ⌜ headerBytes ≤ length (now s) ⌝ }
-    ensures { λ r. ⌜ (r ≡ pairsAt (kOf (now (s .entry))) (nOf (now (s .entry))) (qOf (now (s .entry))))
-        × (r < 137438953472) ⌝ }
+    ensures { λ r. ⌜ (r ≡ pairsAt (linkBytes (now (s .entry))) (kOf (now (s .entry))) (nOf (now (s .entry)))
+        (qOf (now (s .entry)))) × (r < 274877906944) ⌝ }
 {
     rules_at(s) + 12 * rules_of(s)
 }
@@ -65,8 +68,8 @@ pub fn pairs_at(s: &[u8]) -> usize
 // Where the sheet ends.
 pub fn end_at(s: &[u8]) -> usize
     requires { ⌜ headerBytes ≤ length (now s) ⌝ }
-    ensures { λ r. ⌜ (r ≡ endAt (kOf (now (s .entry))) (nOf (now (s .entry)))
-        (qOf (now (s .entry))) (tOf (now (s .entry)))) × (r < 274877906944) ⌝ }
+    ensures { λ r. ⌜ (r ≡ endAt (linkBytes (now (s .entry))) (kOf (now (s .entry))) (nOf (now (s .entry)))
+        (qOf (now (s .entry))) (tOf (now (s .entry)))) × (r < 549755813888) ⌝ }
 {
     pairs_at(s) + 4 * pairs_of(s)
 }

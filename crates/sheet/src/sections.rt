@@ -1,14 +1,16 @@
-// The sections of a sheet whose header is right, each read as the part of the sheet that begins at its offset.
+// The sections of a sheet whose header is right, each read as the part of the sheet that begins at its offset. Links
+// are looked up in the sheet itself.
 ghost use mathlib.Core.Path.{_≡_};
 ghost use mathlib.Core.Bool.{true};
-ghost use Rattle.sheet.specs.Sheet.{kOf, nOf, qOf, tOf, linkPart, freqPart, rulePart, pairPart};
-ghost use Rattle.sheet.specs.Sheet.{linksOk, freqsOk, rulesOk, pairsOk};
+ghost use Rattle.sheet.specs.Sheet.{kOf, nOf, qOf, tOf, freqPart, rulePart, pairPart};
+ghost use Rattle.sheet.specs.Sheet.{linksOk, widthsOk, freqsOk, rulesOk, pairsOk};
 ghost use Rattle.sheet.specs.Refusal.{numberOf, unless, sectionCause};
 ghost use Rattle.sheet.specs.Accepted.{Head};
 use crate::Cause;
 use crate::Reading;
 use crate::freq_rows::freqs;
 use crate::link_rows::links;
+use crate::link_rows::widths;
 use crate::pair_rows::pairs;
 use crate::places::freqs_at;
 use crate::places::freqs_of;
@@ -18,24 +20,32 @@ use crate::places::pairs_of;
 use crate::places::rules_at;
 use crate::places::rules_of;
 use crate::rule_rows::rules;
+use sheet_rows::link_bytes;
 
 // The link section.
 fn link_section(s: &[u8]) -> Reading
     requires { ⌜ Head (now s) ⌝ }
     ensures { λ r. ⌜ numberOf r
-        ≡ unless (linksOk (linkPart (now (s .entry))) (kOf (now (s .entry))) (nOf (now (s .entry)))) 5 ⌝ }
+        ≡ unless (linksOk (now (s .entry)) (kOf (now (s .entry))) (nOf (now (s .entry)))) 5 ⌝ }
 {
-    links(&s[40..], links_of(s), freqs_of(s))
+    links(&s[40..], link_bytes(s), links_of(s), freqs_of(s))
+}
+
+// The widths of the link section.
+fn width_section(s: &[u8]) -> bool
+    requires { ⌜ Head (now s) ⌝ }
+    ensures { λ r. ⌜ r ≡ widthsOk (now (s .entry)) (kOf (now (s .entry))) ⌝ }
+{
+    widths(&s[40..], link_bytes(s), links_of(s))
 }
 
 // The frequency section, after the link section was accepted.
 fn freq_section(s: &[u8]) -> bool
-    requires { ⌜ Head (now s) × (linksOk (linkPart (now s)) (kOf (now s)) (nOf (now s)) ≡ true) ⌝ }
-    ensures { λ r. ⌜ r
-        ≡ freqsOk (linkPart (now (s .entry))) (freqPart (now (s .entry))) (kOf (now (s .entry))) ⌝ }
+    requires { ⌜ Head (now s) × (linksOk (now s) (kOf (now s)) (nOf (now s)) ≡ true) ⌝ }
+    ensures { λ r. ⌜ r ≡ freqsOk (now (s .entry)) (freqPart (now (s .entry))) (kOf (now (s .entry))) ⌝ }
 {
     let at = freqs_at(s);
-    freqs(&s[40..], &s[at..], links_of(s))
+    freqs(s, &s[at..], links_of(s))
 }
 
 // The rule section.
@@ -51,21 +61,24 @@ fn rule_section(s: &[u8]) -> bool
 // The pair section, after the rule section was accepted.
 fn pair_section(s: &[u8]) -> bool
     requires { ⌜ Head (now s) × (rulesOk (rulePart (now s)) (kOf (now s)) (qOf (now s)) (tOf (now s)) ≡ true) ⌝ }
-    ensures { λ r. ⌜ r ≡ pairsOk (linkPart (now (s .entry))) (rulePart (now (s .entry)))
+    ensures { λ r. ⌜ r ≡ pairsOk (now (s .entry)) (rulePart (now (s .entry)))
         (pairPart (now (s .entry))) (qOf (now (s .entry))) ⌝ }
 {
     let at = rules_at(s);
     let from = pairs_at(s);
-    pairs(&s[40..], &s[at..], &s[from..], rules_of(s))
+    pairs(s, &s[at..], &s[from..], rules_of(s))
 }
 
-// The four sections in turn.
+// The sections in turn, the widths after all else of the link section.
 pub fn sections(s: &[u8]) -> Reading
     requires { ⌜ Head (now s) ⌝ }
     ensures { λ r. ⌜ numberOf r ≡ sectionCause (now (s .entry)) ⌝ }
 {
     if let Reading::Refused(cause) = link_section(s) {
         return Reading::Refused(cause);
+    }
+    if !width_section(s) {
+        return Reading::Refused(Cause::Width);
     }
     if !freq_section(s) {
         return Reading::Refused(Cause::Frequency);

@@ -1,27 +1,30 @@
-// The fields of a sheet's rows, each by the row's number in its section.
-// The contracts cite `Rows`: how many bytes a row takes, and where its fields are.
+// What a sheet's form says, and the fields of its rows, each by the row's number in its section.
+// The contracts cite `Form`, what each form has, and `Rows`: how many bytes a row takes, and where its fields are.
+mod forms;
+mod links;
+
 ghost use mathlib.Core.Path.{_≡_};
 ghost use Prim.Native.Nat.{_<_};
-ghost use Rattle.sheet_rows.specs.Rows.{HasRow, linkBytes, freqBytes, ruleBytes, pairBytes};
-ghost use Rattle.sheet_rows.specs.Rows.{linkFirst, linkCount, freq as freqOf, pairFirst, pairSecond};
+ghost use Rattle.sheet_rows.specs.Rows.{HasRow, freqBytes, ruleBytes, pairBytes};
+ghost use Rattle.sheet_rows.specs.Rows.{freq as freqOf, pairFirst, pairSecond};
 ghost use Rattle.sheet_rows.specs.Rows.{ruleA, ruleB, ruleKind, ruleCount, ruleValue};
+pub use forms::form_of;
+pub use forms::link_bytes;
+pub use links::link_count;
+pub use links::link_first;
+pub use links::link_width;
+pub use links::row_count;
+pub use links::row_first;
+pub use links::row_width;
 use wire::half;
 use wire::word;
 
-// The first frequency of link l.
-pub fn link_first(p: &[u8], l: usize) -> usize
-    requires { ⌜ HasRow linkBytes (now p) l ⌝ }
-    ensures { λ r. ⌜ (r ≡ linkFirst (now (p .entry)) l) × (r < 65536) ⌝ }
-{
-    half(p, 4 * l)
-}
-
-// How many frequencies link l has.
-pub fn link_count(p: &[u8], l: usize) -> usize
-    requires { ⌜ HasRow linkBytes (now p) l ⌝ }
-    ensures { λ r. ⌜ (r ≡ linkCount (now (p .entry)) l) × (r < 65536) ⌝ }
-{
-    half(p, 4 * l + 2)
+// What a form of sheet has: whether there is one, the bytes of a link row, and the most links and frequencies.
+pub struct Form {
+    pub known: bool,
+    pub bytes: usize,
+    pub links: usize,
+    pub freqs: usize,
 }
 
 // The v-th frequency.

@@ -1,4 +1,4 @@
--- A sheet has at most 59,304 bytes. What follows in a longer one changes nothing: it is refused by its header or its
+-- A sheet has at most 59,560 bytes. What follows in a longer one changes nothing: it is refused by its header or its
 -- length, so the program may read it in part.
 use mathlib.Core.Path.{_≡_, refl, sym, ap, _∙_}
 use mathlib.Core.Bool.{Bool, true, false, _&&_}
@@ -11,7 +11,10 @@ use lib.Seq.{getD-take, length-take-le}
 use borrow.Author.Tests.{ne-eqb, leb-true, le-leb}
 use Rattle.sets.proofs.Tests.{and-l, and-r}
 use Rattle.wire.specs.Fields.{le32}
-use Rattle.sheet.specs.Sheet.{headerBytes, mostLinks, mostFreqs, mostRules, mostPairs, kOf, nOf, qOf, tOf, endAt}
+use Rattle.sheet_rows.specs.Form.{formOf, mostLinks}
+use Rattle.sheet_rows.specs.Rows.{headerBytes, linkBytes}
+use Rattle.sheet_rows.proofs.Rows.{form-small, rows-small}
+use Rattle.sheet.specs.Sheet.{mostRules, mostPairs, kOf, nOf, qOf, tOf, endAt}
 use Rattle.sheet.specs.Refusal.{formOk, linkCountOk, countsOk, tableOk, offsetsOk, passing, sectionCause, refusal}
 use Rattle.rules.specs.Job.{jobOf}
 use Rattle.work_words.specs.Layout.{workWords}
@@ -22,11 +25,11 @@ use Rattle.text.proofs.Answers.{printed-any}
 
 -- the refusal of a sheet that is too long, by its header
 front : List ℕ → ℕ
-front s = passing (eqb (le32 s 0) 1) 1 λ _. passing (linkCountOk s) 2 λ _. passing (countsOk s) 3 λ _. 4
+front s = passing (formOf s .known) 1 λ _. passing (linkCountOk s) 2 λ _. passing (countsOk s) 3 λ _. 4
 
 front-some : (s : List ℕ) → (0 < front s) × (front s ≤ 4)
 unfolding front
-front-some s = go (eqb (le32 s 0) 1) (linkCountOk s) (countsOk s)
+front-some s = go (formOf s .known) (linkCountOk s) (countsOk s)
   where
     go : (a b c : Bool) → (0 < passing a 1 (λ _. passing b 2 λ _. passing c 3 λ _. 4))
         × (passing a 1 (λ _. passing b 2 λ _. passing c 3 λ _. 4) ≤ 4)
@@ -35,18 +38,20 @@ front-some s = go (eqb (le32 s 0) 1) (linkCountOk s) (countsOk s)
     go true false c = (omega arith, omega arith)
     go false b c = (omega arith, omega arith)
 
-module _ (s : List ℕ) (long : 59304 < length s) where
+module _ (s : List ℕ) (long : 59560 < length s) where
   past-end : linkCountOk s ≡ true → countsOk s ≡ true → offsetsOk s ≡ false
   unfolding linkCountOk countsOk offsetsOk
   past-end h g =
-      let end = endAt (kOf s) (nOf s) (qOf s) (tOf s) in
-      let a = ltb 0 (nOf s) && leb (nOf s) mostFreqs in
+      let f = form-small (le32 s 0) in
+      let r = rows-small (linkBytes s) (kOf s) (f .bytes) in
+      let end = endAt (linkBytes s) (kOf s) (nOf s) (qOf s) (tOf s) in
+      let a = ltb 0 (nOf s) && leb (nOf s) (formOf s .freqs) in
       let b = a && leb (qOf s) mostRules in
-      let k = leb-true (kOf s) mostLinks (and-r (ltb 0 (kOf s)) _ h) in
+      let k = leb-true (kOf s) (formOf s .links) (and-r (ltb 0 (kOf s)) _ h) in
       let t = leb-true (tOf s) mostPairs (and-r b _ g) in
       let e = and-l b (leb (tOf s) mostPairs) g in
       let q = leb-true (qOf s) mostRules (and-r a _ e) in
-      let n = leb-true (nOf s) mostFreqs (and-r (ltb 0 (nOf s)) _ (and-l a (leb (qOf s) mostRules) e)) in
+      let n = leb-true (nOf s) (formOf s .freqs) (and-r (ltb 0 (nOf s)) _ (and-l a (leb (qOf s) mostRules) e)) in
       no-and (tableOk s) _ (ne-eqb (length s) end (λ e. absurd (omega arith)))
     where
       no-and : (a b : Bool) → b ≡ false → (a && b) ≡ false
@@ -58,7 +63,7 @@ module _ (s : List ℕ) (long : 59304 < length s) where
   by-header = rw (le-leb headerBytes (length s) (omega arith)) (go (linkCountOk s) (countsOk s) refl refl)
     where
       form : (Unit {0} → ℕ) → ℕ
-      form after = passing (eqb (le32 s 0) 1) 1 after
+      form after = passing (formOf s .known) 1 after
 
       go : (b c : Bool) → linkCountOk s ≡ b → countsOk s ≡ c
           → form (λ _. passing b 2 λ _. passing c 3 λ _. passing (offsetsOk s) 4 λ _. sectionCause s)
@@ -77,7 +82,7 @@ module _ (s : List ℕ) (long : 59304 < length s) where
       outcome-refused (jobOf s) programSetting mostLinks workWords (λ q. front-more (sym e ∙ q))
       ∙ ap (λ r. refused r mostLinks) e
 
-module _ (s : List ℕ) (m : ℕ) (long : 59304 < m) (within : m ≤ length s) where
+module _ (s : List ℕ) (m : ℕ) (long : 59560 < m) (within : m ≤ length s) where
   same-byte : (i : ℕ) → i ≤ 19 → getD (take m s) i 0 ≡ getD s i 0
   same-byte i h = getD-take m s i 0 (omega arith)
 

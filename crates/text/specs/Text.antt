@@ -5,7 +5,8 @@ use Prim.Native.Nat.{ℕ}
 use lib.Dec.{eqb}
 use lib.ListN.{getD}
 use Rattle.sets.specs.Below.{loop}
-use Rattle.sheet.specs.Sheet.{kOf, mostLinks}
+use Rattle.sheet_rows.specs.Form.{mostLinks}
+use Rattle.sheet.specs.Sheet.{kOf}
 use Rattle.rules.specs.Job.{jobOf}
 use Rattle.setting.specs.Setting.{Setting}
 use Rattle.work_words.specs.Layout.{workWords}

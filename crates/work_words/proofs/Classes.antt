@@ -8,7 +8,7 @@ use native.Mathlib.Omega.{arith}
 use lib.Dec.{eqb}
 use borrow.Author.Tests.{eq-eqb}
 use Rattle.sets.proofs.Tests.{clash, is-false, not-out, or-case}
-use Rattle.sheet.specs.Sheet.{kOf, nOf, qOf, linkPart, freqPart, rulePart, pairPart}
+use Rattle.sheet.specs.Sheet.{kOf, nOf, qOf, freqPart, rulePart, pairPart}
 use Rattle.sheet.specs.Accepted.{Accepted}
 use Rattle.cliques.specs.Graph.{Layers}
 use Rattle.rules.specs.Job.{Job, jobOf}
@@ -22,14 +22,14 @@ use Rattle.work_words.specs.Classes.{listOk, layerList, classesOf}
 
 module _ {s : List ℕ} (A : Accepted s) where
   pub edge-sym : (u v : ℕ) → edge (jobOf s) u v ≡ edge (jobOf s) v u
-  edge-sym = adjacent-sym (linkPart s) (freqPart s) (rulePart s) (pairPart s) (kOf s) (nOf s) (qOf s)
+  edge-sym = adjacent-sym s (freqPart s) (rulePart s) (pairPart s) (kOf s) (nOf s) (qOf s)
 
   pub edge-out : (u v : ℕ) → edge (jobOf s) u v ≡ true
-      → Adjacent (linkPart s) (freqPart s) (rulePart s) (pairPart s) (kOf s) (nOf s) (qOf s) u v
-  edge-out = adjacent-out (linkPart s) (freqPart s) (rulePart s) (pairPart s) (kOf s) (nOf s) (qOf s)
+      → Adjacent s (freqPart s) (rulePart s) (pairPart s) (kOf s) (nOf s) (qOf s) u v
+  edge-out = adjacent-out s (freqPart s) (rulePart s) (pairPart s) (kOf s) (nOf s) (qOf s)
 
   few : (v : ℕ) → v < nOf s → layer (jobOf s) v < kOf s
-  few v l = layer-in (linkPart s) (kOf s) (nOf s) (A .links) v l .0
+  few v l = layer-in s (kOf s) (nOf s) (A .links) v l .0
 
   apart : (u v : ℕ) → edge (jobOf s) u v ≡ true → layer (jobOf s) u ≡ layer (jobOf s) v → ⊥
   apart u v h = edge-out u v h .apart

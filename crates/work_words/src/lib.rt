@@ -37,7 +37,7 @@ fn put_rows(sheet: &[u8], place: Place, layers: usize, built: &mut [u8], work: &
     ensures { λ _. ⌜ RowsPut (jobOf (now (sheet .entry))) place layers (now (work .exit)) (now (built .exit)) ⌝ }
 {
     build_graph(work, place, sheet);
-    put_layers(&sheet[40..], place.n, place.k, built);
+    put_layers(sheet, place.n, place.k, built);
     put_masks(work, place, layers, built);
 }
 

@@ -1,7 +1,7 @@
 -- `cells::khz` meets its contract: the part that begins at the frequencies is the sheet's section.
 use borrow.Author.Needs.{needs}
 use mathlib.Core.Path.{refl, _∙_}
-use Rattle.sheet.proofs.Parts.{part-from}
+use Rattle.sheet_rows.proofs.Rows.{part-from}
 use Rattle.cells.proofs.khz.Statement.{statement}
 use Rattle.cells.proofs.khz.Tie as tie
 

@@ -11,7 +11,7 @@ side-requires : tie.Need-side-requires
 side-requires c κs =
     let s = c .before .before .before .before .before .before .before in
     let o = links-within (s .pre .0 .0 .parts) (s .args .j) (s .pre .0 .0 .among) in
-    (omega arith, omega arith, o .2)
+    rw (c .before .rule-a .ensures .0, c .rule-b .ensures .0) (o .0, o .1, o .2)
 
 rule-side-requires : tie.Need-rule-side-requires
 rule-side-requires c κs =
@@ -28,9 +28,10 @@ rule-side-requires c κs =
 
 side-requires-2 : tie.Need-side-requires-2
 side-requires-2 c κs =
-    let s = c .before .before .before .before .before .before .before .before .before .before .before .before in
+    let r = c .before .before .before .before .before in
+    let s = r .before .before .before .before .before .before .before in
     let o = links-within (s .pre .0 .0 .parts) (s .args .j) (s .pre .0 .0 .among) in
-    (omega arith, omega arith, o .2)
+    rw (r .before .rule-a .ensures .0, r .rule-b .ensures .0) (o .1, o .0, o .2)
 
 rule-side-requires-2 : tie.Need-rule-side-requires-2
 rule-side-requires-2 c κs =

@@ -3,7 +3,7 @@ use borrow.Author.Needs.{needs}
 use denote.Ref.{now}
 use mathlib.Core.Path.{refl}
 use Rattle.sheet.specs.Sheet.{tOf}
-use Rattle.sheet.proofs.Parts.{part-from}
+use Rattle.sheet_rows.proofs.Rows.{part-from}
 use Rattle.rules.proofs.Laws.{parts-of}
 use Rattle.graph.proofs.Rows.{built-edge}
 use Rattle.graph.proofs.build_graph.Statement.{statement}
@@ -11,7 +11,7 @@ use Rattle.graph.proofs.build_graph.Tie as tie
 
 build-rows-requires : tie.Need-build-rows-requires
 build-rows-requires c κs =
-    let o = c .before .before .before .before .before .before in
+    let o = c .before .before .before .before .before in
     let s = o .before .before .before .before .before in
     let P = s .pre in
     let p = o .pairs-at .ensures .0 in
@@ -28,12 +28,11 @@ build-rows-requires c κs =
 returns : tie.Need-returns
 returns c =
     let b = c .before .before in
-    let o = b .before .before .before .before .before .before .before in
+    let o = b .before .before .before .before .before .before in
     let e = o .before .before .freqs-at .ensures .0 in
     let f = o .before .rules-at .ensures .0 in
     let g = o .pairs-at .ensures .0 in
-    built-edge (o .before .before .before .before .before .pre) (b .build-rows .ensures) (simp part-from)
-    (simp part-from (rw e refl))
+    built-edge (o .before .before .before .before .before .pre) (b .build-rows .ensures) (simp part-from (rw e refl))
     (simp part-from (rw f refl)) (simp part-from (rw g refl)) (b .before .rules-of .ensures .0)
 
 pub build-graph-spec : {M : Type 1} → statement M
@@ -43,9 +42,6 @@ build-graph-spec =
     (λ c κs. search needs)
     (λ c κs. search needs)
     (λ c κs. search needs)
-    (λ c. search needs)
-    (λ c. search needs)
-    (λ c. search needs)
     (λ c. search needs)
     (λ c. search needs)
     (λ c. search needs)

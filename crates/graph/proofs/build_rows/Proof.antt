@@ -13,12 +13,12 @@ use Rattle.graph.proofs.build_rows.Statement.{statement}
 use Rattle.graph.proofs.build_rows.Tie as tie
 
 abbrev Inv-loop : tie.InvT-loop
-Inv-loop part₀ place ls fs rs ps q j₀ part j =
+Inv-loop part₀ place sheet fs rs ps q j₀ part j =
     (j ≤ q) × RowsFit (place .w) (place .graph) (place .n) (length part)
-    × Built (adjacent ls fs rs ps (place .k) (place .n) j) (place .w) (place .graph) (place .n) part₀ part
+    × Built (adjacent sheet fs rs ps (place .k) (place .n) j) (place .w) (place .graph) (place .n) part₀ part
 
 abbrev μ-loop : tie.MeasureT-loop
-μ-loop part₀ place ls fs rs ps q j₀ part j = q - j
+μ-loop part₀ place sheet fs rs ps q j₀ part j = q - j
 
 start-rows-requires : tie.Need-start-rows-requires Inv-loop μ-loop
 start-rows-requires c κs = let s = c .before .before .before .before .before .before in
@@ -34,7 +34,7 @@ loop-holds : tie.Need-loop-holds Inv-loop μ-loop
 loop-holds c =
     let s = c .before .before .before .before .before .before .before .before .before .before .before .before .before in
     let a = s .args in
-    let B = separated-built (a .ls .now) (a .fs .now) (a .rs .now) (a .ps .now) (a .place .k)
+    let B = separated-built (a .sheet .now) (a .fs .now) (a .rs .now) (a .ps .now) (a .place .k)
     (c .before .before .before .before .before .before .start-rows .ensures)
     (c .before .before .separate-rows .ensures) in
     (search needs, fit-same (s .pre .1) (B .rest), record { rows = B .rows; rest = outside-none _ _ _ })

@@ -1,8 +1,6 @@
 -- `graph_export::put_both` meets its contract: the rows are built, and both texts put.
 use borrow.Author.Needs.{needs}
 use native.Mathlib.Omega.{arith}
-use lib.ListN.{length-drop}
-use Rattle.sheet.proofs.Parts.{part-from}
 use Rattle.graph_export.proofs.Outcomes.{both-put}
 use Rattle.graph_export.proofs.put_both.Statement.{statement}
 use Rattle.graph_export.proofs.put_both.Tie as tie
@@ -40,20 +38,19 @@ put-graph-requires c κs =
 put-counts-requires : tie.Need-put-counts-requires
 put-counts-requires c κs =
     let s = c .before .before .before .before .before .before .before .before .before .before .before .before .before
-    .before .before .before .before in
+    .before .before .before in
     let h = s .pre .0 .head in
-    let k = c .before .before .before .before .before .before .before .before .before .before .before .links-of .ensures
-    .0 in
-    (simp part-from (rw (k, length-drop) (omega (arith, h .whole))), omega (arith, k, h .k-small))
+    let k = c .before .before .before .before .before .before .before .before .before .before .links-of .ensures .0 in
+    (rw k (omega (arith, h .whole)), omega (arith, k, h .k-small))
 
 returns : tie.Need-returns
 returns c =
     let k = c .before .before in
-    let g = k .before .before .before .before .before in
+    let g = k .before .before .before .before in
     let b = g .before .before .before .before .before in
     both-put _ (b .before .before .before .freqs-of .ensures .0) (b .before .before .links-of .ensures .0)
     (b .build-graph .ensures) (g .put-graph .ensures)
-    (simp part-from at (k .put-counts .ensures .0)) (k .put-counts .ensures .1)
+    (k .put-counts .ensures .0) (k .put-counts .ensures .1)
 
 pub put-both-spec : {M : Type 1} → statement M
 put-both-spec =
@@ -63,9 +60,6 @@ put-both-spec =
     (λ c κs. c .before .before .before .before .before .pre .0 .head .long)
     build-graph-requires
     put-graph-requires
-    (λ c. search needs)
-    (λ c. search needs)
-    (λ c. search needs)
     put-counts-requires
     (λ c. search needs)
     (λ c. search needs)

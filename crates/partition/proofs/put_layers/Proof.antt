@@ -14,16 +14,16 @@ use Rattle.partition.proofs.put_layers.Statement.{statement}
 use Rattle.partition.proofs.put_layers.Tie as tie
 
 abbrev Inv-loop : tie.InvT-loop
-Inv-loop ls n k cls₀ v₀ cls v = (v ≤ n) × (length cls ≡ n) × (cls ≡ tabulate v (layerOf ls k) ++ drop v cls₀)
+Inv-loop sheet n k cls₀ v₀ cls v = (v ≤ n) × (length cls ≡ n) × (cls ≡ tabulate v (layerOf sheet k) ++ drop v cls₀)
 
 abbrev μ-loop : tie.MeasureT-loop
-μ-loop ls n k cls₀ v₀ cls v = n - v
+μ-loop sheet n k cls₀ v₀ cls v = n - v
 
 loop-holds : tie.Need-loop-holds Inv-loop μ-loop
 loop-holds c = (
   search needs,
   search needs,
-  tab-none _ (layerOf (c .before .before .args .ls .now)
+  tab-none _ (layerOf (c .before .before .args .sheet .now)
       (c .before .before .args .k)),
 )
 
@@ -31,7 +31,7 @@ cast-cls : tie.Need-cast-cls Inv-loop μ-loop
 cast-cls c =
     let x = c .before .before in
     let s = x .before .before .before in
-    omega (arith, layer-small (s .args .ls .now) (s .args .k) (x .loop .v), c .layer .ensures)
+    omega (arith, layer-small (s .args .sheet .now) (s .args .k) (x .loop .v), c .layer .ensures)
 
 loop-again : tie.Need-loop-again Inv-loop μ-loop
 loop-again c =
@@ -41,7 +41,7 @@ loop-again c =
       omega arith,
       simp length-set (x .loop .inv .1),
       tab-more (a .cls .now) (x .loop .cls)
-          (layerOf (a .ls .now) (a .k)) (x .loop .v) (c .layer .result) (omega arith) (x .loop .inv .2)
+          (layerOf (a .sheet .now) (a .k)) (x .loop .v) (c .layer .result) (omega arith) (x .loop .inv .2)
           (c .layer .ensures),
     )
 
@@ -51,7 +51,7 @@ returns c =
     let x = c .before in
     let s = x .before .before .before in
     let a = s .args in
-    rw (s .pre .1) at (tab-done (a .cls .now) (x .loop .cls) (layerOf (a .ls .now) (a .k)) (x .loop .v) (omega arith)
+    rw (s .pre .1) at (tab-done (a .cls .now) (x .loop .cls) (layerOf (a .sheet .now) (a .k)) (x .loop .v) (omega arith)
     (x .loop .inv .2))
 
 pub put-layers-spec : {M : Type 1} → statement M

@@ -2,7 +2,7 @@
 use borrow.Author.Needs.{needs}
 use mathlib.Core.Path.{_≡_, refl, _∙_}
 use native.Mathlib.Omega.{arith}
-use Rattle.sheet.proofs.Parts.{part-from}
+use Rattle.rules.proofs.Laws.{parts-of}
 use Rattle.work_words.proofs.Filling.{rows-put}
 use Rattle.work_words.proofs.put_rows.Statement.{statement}
 use Rattle.work_words.proofs.put_rows.Tie as tie
@@ -17,23 +17,28 @@ build-graph-requires c κs =
       fit = record { wide = P .laid .wide; small = P .laid .small; inside = omega (arith, P .laid .after-graph) };
     }
 
+put-layers-requires : tie.Need-put-layers-requires
+put-layers-requires c κs =
+    let P = c .before .before .before .before .before .before .before .before .pre in (
+      rw (P .links) (parts-of _ (P .accepted) .link-rows),
+      P .room,
+      omega (arith, P .links, P .accepted .head .k-small),
+    )
+
 returns : tie.Need-returns
 returns c =
     let l = c .before .before .before .before .before .before .before in
-    let g = l .before .before .before .before .before in
+    let g = l .before .before .before .before in
     let P = g .before .before .before .before .before .pre in
     rows-put P (g .build-graph .ensures)
-    (l .put-layers .ensures ∙ simp part-from (rw (P .links, P .freqs) refl)) (c .before .before .put-masks .ensures)
+    (l .put-layers .ensures ∙ rw (P .links, P .freqs) refl) (c .before .before .put-masks .ensures)
 
 pub put-rows-spec : {M : Type 1} → statement M
 put-rows-spec =
     tie.close
     (tie.spec
     build-graph-requires
-    (λ c. search needs)
-    (λ c. search needs)
-    (λ c. search needs)
-    (λ c κs. search needs)
+    put-layers-requires
     (λ c κs. search needs)
     (λ c. search needs)
     (λ c. search needs)

@@ -5,22 +5,24 @@ use Prim.Native.Nat.{_+_, _≤_, _<_}
 use mathlib.Core.Path.{_≡_}
 use native.Mathlib.Omega.{arith}
 use Rattle.sheet_rows.specs.Rows.{linkFirst, linkCount}
+use Rattle.sheet_rows.proofs.Rows.{has-link}
 use Rattle.sheet.proofs.Links.{link-in, link-some}
 use Rattle.graph.proofs.Rows.{fit-same, row-last, link-written}
 use Rattle.graph.proofs.start.start_link.Statement.{statement}
 use Rattle.graph.proofs.start.start_link.Tie as tie
 
 link-first-requires : tie.Need-link-first-requires
-link-first-requires c κs = let s = c .before .before in omega (arith, s .pre .0 .rows)
+link-first-requires c κs = let s = c .before .before in has-link (now (s .args .sheet)) (s .args .place .k) (s .args .l) (s .pre .0 .rows) (s .pre .2)
 
 link-count-requires : tie.Need-link-count-requires
-link-count-requires c κs = let s = c .before .before .before in omega (arith, s .pre .0 .rows)
+link-count-requires c κs =
+    let s = c .before .before .before in has-link (now (s .args .sheet)) (s .args .place .k) (s .args .l) (s .pre .0 .rows) (s .pre .2)
 
 -- the link has vertices, and they are among the n
 record Inside (c : tie.After-link-count) : Type 0 where
-  first : c .before .link-first .result ≡ linkFirst (now (c .before .before .before .before .args .ls))
+  first : c .before .link-first .result ≡ linkFirst (now (c .before .before .before .before .args .sheet))
       (c .before .before .before .before .args .l)
-  count : c .link-count .result ≡ linkCount (now (c .before .before .before .before .args .ls))
+  count : c .link-count .result ≡ linkCount (now (c .before .before .before .before .args .sheet))
       (c .before .before .before .before .args .l)
   some : 0 < c .link-count .result
   within : c .before .link-first .result + c .link-count .result ≤ c .before .before .before .before .args .place .n

@@ -19,13 +19,13 @@ use Rattle.graph.proofs.start.start_rows.Statement.{statement}
 use Rattle.graph.proofs.start.start_rows.Tie as tie
 
 abbrev Inv-loop : tie.InvT-loop
-Inv-loop part₀ place ls w n k last l₀ part l =
+Inv-loop part₀ place sheet w n k last l₀ part l =
     (l ≤ place .k) × RowsFit (place .w) (place .graph) (place .n) (length part)
-    × Rewritten (λ (u : ℕ) (S : Set). linksDiffer ls (place .k) (place .n) u) 0 (sumTo l (linkCount ls)) (place .w)
+    × Rewritten (λ (u : ℕ) (S : Set). linksDiffer sheet (place .k) (place .n) u) 0 (sumTo l (linkCount sheet)) (place .w)
     (place .graph) (place .n) part₀ part
 
 abbrev μ-loop : tie.MeasureT-loop
-μ-loop part₀ place ls w n k last l₀ part l = place .k - l
+μ-loop part₀ place sheet w n k last l₀ part l = place .k - l
 
 loop-holds : tie.Need-loop-holds Inv-loop μ-loop
 loop-holds c =
@@ -50,7 +50,7 @@ start-link-requires c κs =
     let L = s .pre .0 in
     let B = z₂ .row-at .ensures in
     let x = every-put B (z₁ .clear .ensures) (y .add-span .ensures) in
-    let i = sum-in (a .place .k) (v .l) (linkCount (a .ls .now)) t in
+    let i = sum-in (a .place .k) (v .l) (linkCount (a .sheet .now)) t in
     let z = link-sum _ _ _ (L .links) in
     let m = link-some _ _ _ (L .links) (v .l) t in (
       L,
@@ -74,7 +74,7 @@ loop-again c =
     let i = link-in _ _ _ (L .links) (v .l) t in (
       omega arith,
       fit-same (v .inv .1) (x .rest),
-      rw (sum-more (v .l) (linkCount (a .ls .now)))
+      rw (sum-more (v .l) (linkCount (a .sheet .now)))
           (rows-join _ _ _ _ _ _ _ (omega arith) (omega arith) (omega arith) (v .inv .2) (rw e at x)),
     )
 

@@ -5,13 +5,15 @@ use Rattle.graph.proofs.strike.side.Tie as tie
 
 returns : tie.Need-returns
 returns c =
-    let l = c .before .before .before .before .before in
+    let l = c .before .before .before .before .before .before .before in
     rw (
       l .before .link-first .ensures .0,
       l .link-first2 .ensures .0,
-      c .before .before .before .before .rule-kind .ensures .0,
-      c .before .before .before .rule-value .ensures .0,
-      c .before .before .rule-count .ensures .0,
+      c .before .before .before .before .before .before .rule-kind .ensures .0,
+      c .before .before .before .before .before .rule-value .ensures .0,
+      c .before .before .before .before .rule-count .ensures .0,
+      c .before .before .before .link-width .ensures .0,
+      c .before .before .link-width2 .ensures .0,
       c .before .link-count .ensures .0,
       c .link-count2 .ensures .0,
     )
@@ -25,6 +27,9 @@ side-spec =
     (λ c κs. search needs)
     (λ c κs. search needs)
     (λ c κs. search needs)
+    (λ c κs. search needs)
+    (λ c κs. search needs)
+    (λ c. search needs)
     (λ c κs. search needs)
     (λ c. search needs)
     (λ c κs. search needs)

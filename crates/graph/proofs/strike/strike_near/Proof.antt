@@ -11,11 +11,11 @@ use Rattle.graph.proofs.strike.strike_near.Statement.{statement}
 use Rattle.graph.proofs.strike.strike_near.Tie as tie
 
 abbrev Inv-loop : tie.InvT-loop
-Inv-loop part₀ w to fs x kind value end v₀ part v =
-    (v₀ ≤ v) × (v ≤ end) × Put (setAt part₀ w to ∖ (stretch v₀ v ∩ clashing fs kind value x)) w to part₀ part
+Inv-loop part₀ w to fs s x end v₀ part v =
+    (v₀ ≤ v) × (v ≤ end) × Put (setAt part₀ w to ∖ (stretch v₀ v ∩ clashing fs s x)) w to part₀ part
 
 abbrev μ-loop : tie.MeasureT-loop
-μ-loop part₀ w to fs x kind value end v₀ part v = end - v
+μ-loop part₀ w to fs s x end v₀ part v = end - v
 
 loop-holds : tie.Need-loop-holds Inv-loop μ-loop
 loop-holds c = (search needs, search needs, struck-none _ _ _ _ _)

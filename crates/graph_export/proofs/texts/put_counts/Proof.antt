@@ -7,6 +7,7 @@ use Prim.Native.Nat.{_*_, _-_, _≤_}
 use lib.ListN.{length}
 use Rattle.sets.specs.Below.{tabulate}
 use Rattle.sheet_rows.specs.Rows.{linkCount}
+use Rattle.sheet_rows.proofs.Rows.{has-link}
 use Rattle.output.specs.Output.{Wrote}
 use Rattle.dimacs.specs.Export.{countsText}
 use Rattle.graph_export.proofs.Walks.{counts-none, counts-more, counts-done}
@@ -14,11 +15,11 @@ use Rattle.graph_export.proofs.texts.put_counts.Statement.{statement}
 use Rattle.graph_export.proofs.texts.put_counts.Tie as tie
 
 abbrev Inv-loop : tie.InvT-loop
-Inv-loop out₀ ls k end₀ l₀ out end l =
-    (l ≤ k) × (end ≤ 11 * l) × Wrote (countsText (tabulate l (linkCount ls))) out₀ 0 out end
+Inv-loop out₀ sheet k end₀ l₀ out end l =
+    (l ≤ k) × (end ≤ 11 * l) × Wrote (countsText (tabulate l (linkCount sheet))) out₀ 0 out end
 
 abbrev μ-loop : tie.MeasureT-loop
-μ-loop out₀ ls k end₀ l₀ out end l = k - l
+μ-loop out₀ sheet k end₀ l₀ out end l = k - l
 
 loop-holds : tie.Need-loop-holds Inv-loop μ-loop
 loop-holds c = (search needs, search needs, counts-none _ _)
@@ -48,7 +49,9 @@ put-counts-spec =
     Inv-loop
     μ-loop
     loop-holds
-    (λ c κs. omega arith)
+    (λ c κs.
+    let s = c .before .before .before .before .before in
+    has-link (now (s .args .sheet)) (s .args .k) (c .before .before .loop .l) (s .pre .0) (omega arith))
     cast-count
     (λ c κs. omega arith)
     (λ c. omega arith)

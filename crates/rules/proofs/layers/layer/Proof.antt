@@ -4,16 +4,17 @@ use denote.Ref.{now}
 use Prim.Native.Nat.{_+_, _-_, _≤_}
 use mathlib.Core.Path.{_∙_, _≡_, refl, sym}
 use native.Mathlib.Omega.{arith}
+use Rattle.sheet_rows.proofs.Rows.{has-link}
 use Rattle.rules.specs.Layers.{layerOf}
 use Rattle.rules.proofs.Laws.{layer-down, layer-hit}
 use Rattle.rules.proofs.layers.layer.Statement.{statement}
 use Rattle.rules.proofs.layers.layer.Tie as tie
 
 abbrev Inv-loop : tie.InvT-loop
-Inv-loop ls k v l₀ l = (l ≤ k) × (layerOf ls k v ≡ layerOf ls l v)
+Inv-loop s k v l₀ l = (l ≤ k) × (layerOf s k v ≡ layerOf s l v)
 
 abbrev μ-loop : tie.MeasureT-loop
-μ-loop ls k v l₀ l = l
+μ-loop s k v l₀ l = l
 
 loop-holds : tie.Need-loop-holds Inv-loop μ-loop
 loop-holds c = (omega arith, refl)
@@ -23,14 +24,14 @@ returns c =
     let a = c .before .before .before .before .before .args in
     let l = c .before .before .before .loop .l in
     let e : l ≡ l - 1 + 1 = omega arith in
-    omega (arith, layer-hit (now (a .ls)) l (l - 1) (a .v) e (omega arith))
+    omega (arith, layer-hit (now (a .s)) l (l - 1) (a .v) e (omega arith))
 
 loop-again : tie.Need-loop-again Inv-loop μ-loop
 loop-again c =
     let a = c .before .before .before .before .before .args in
     let l = c .before .before .before .loop .l in
     let e : l ≡ l - 1 + 1 = omega arith in
-    (omega arith, c .before .before .before .loop .inv .1 ∙ layer-down (now (a .ls)) l (l - 1) (a .v) e (omega arith))
+    (omega arith, c .before .before .before .loop .inv .1 ∙ layer-down (now (a .s)) l (l - 1) (a .v) e (omega arith))
 
 returns-2 : tie.Need-returns-2 Inv-loop μ-loop
 unfolding layerOf
@@ -44,7 +45,9 @@ layer-spec =
     μ-loop
     loop-holds
     (λ c. search needs)
-    (λ c κs. search needs)
+    (λ c κs.
+    let b = c .before .before .before in
+    has-link (now (b .args .s)) (b .args .k) (c .before .loop .l - 1) (b .pre) (omega arith))
     returns
     (λ c. search needs)
     loop-again

@@ -1,4 +1,5 @@
 -- `rules::pairs::agree` meets its contract.
+use borrow.Author.Needs.{needs}
 use borrow.Author.Tests.{ne-eqb}
 use Rattle.rules.specs.Pairs.{agree}
 use Rattle.rules.proofs.pairs.agree.Statement.{statement}
@@ -6,7 +7,7 @@ use Rattle.rules.proofs.pairs.agree.Tie as tie
 
 returns : tie.Need-returns
 unfolding agree
-returns c = rw (c .if1 .taken)
+returns c = rw (c .before .if1 .taken) (c .spaced .ensures)
 
 returns-2 : tie.Need-returns-2
 unfolding agree
@@ -25,6 +26,7 @@ pub agree-spec : {M : Type 1} → statement M
 agree-spec =
     tie.close
     (tie.spec
+    (λ c κs. search needs)
     returns
     returns-2
     returns-3

@@ -27,7 +27,7 @@ returns c =
       ← c .before .before .before .before .rule-kind .ensures .0,
       ← c .before .before .before .rule-value .ensures .0,
     )
-    (c .agree .ensures ∙ agree-listed _ _ 0 _ _ (c .before .before .if1 .taken))
+    (c .agree .ensures ∙ agree-listed _ _ 0 _ 0 _ _ (c .before .before .if1 .taken))
 
 freq-requires : tie.Need-freq-requires
 freq-requires c κs =
@@ -38,19 +38,25 @@ freq-requires-2 c κs =
     let b = row-bounds (c .before .before .before .before .before .before .before .pre) in
     rw (c .before .freq-part .ensures) (b .freqV)
 
+rule-widths-requires : tie.Need-rule-widths-requires
+rule-widths-requires c κs =
+    let b = row-bounds (c .before .before .before .before .before .before .before .before .before .pre) in
+    rw (c .before .before .before .before .before .before .before .rule-part .ensures) (b .row, b .rowA, b .rowB)
+
 returns-2 : tie.Need-returns-2
 unfolding allows
 returns-2 c =
     rw (
-      ← c .before .before .before .before .before .before .before .before .rule-part .ensures,
-      ← c .before .before .before .before .freq-part .ensures,
-      ← c .before .before .before .before .before .before .before .rule-kind .ensures .0,
-      ← c .before .before .before .before .before .before .rule-value .ensures .0,
-      ← c .before .before .before .freq .ensures .0,
-      ← c .before .before .freq2 .ensures .0,
-      ← c .before .distance .ensures,
+      ← c .before .before .before .before .before .before .before .before .before .rule-part .ensures,
+      ← c .before .before .before .before .before .freq-part .ensures,
+      ← c .before .before .before .before .before .before .before .before .rule-kind .ensures .0,
+      ← c .before .before .before .before .before .before .before .rule-value .ensures .0,
+      ← c .before .before .before .before .freq .ensures .0,
+      ← c .before .before .before .freq2 .ensures .0,
+      ← c .before .before .distance .ensures,
+      ← c .before .rule-widths .ensures,
     )
-    (c .agree2 .ensures ∙ agree-plain _ _ _ _ _ (c .before .before .before .before .before .if1 .left))
+    (c .agree2 .ensures ∙ agree-plain _ _ _ _ _ _ (c .before .before .before .before .before .before .if1 .left))
 
 pub row-allows-spec : {M : Type 1} → statement M
 row-allows-spec =
@@ -66,5 +72,6 @@ row-allows-spec =
     freq-requires
     freq-requires-2
     (λ c κs. search needs)
+    rule-widths-requires
     (λ c κs. search needs)
     returns-2)

@@ -1,7 +1,7 @@
 -- `part-from` takes the part to the section.
 use borrow.Author.Needs.{needs}
 use denote.Ref.{now}
-use Rattle.sheet.proofs.Parts.{part-from}
+use Rattle.sheet_rows.proofs.Rows.{part-from}
 use Rattle.rules.proofs.parts.pair_part.Statement.{statement}
 use Rattle.rules.proofs.parts.pair_part.Tie as tie
 

@@ -11,7 +11,7 @@ returns c = rw (lt-leb _ _ (c .if1 .taken))
 
 returns-2 : tie.Need-returns-2
 unfolding formOk
-returns-2 c = rw (le-leb _ _ (c .before .if1 .left), ← c .word .ensures .0)
+returns-2 c = rw (le-leb _ _ (c .before .if1 .left), ← c .form-of .ensures)
 
 pub form-ok-spec : {M : Type 1} → statement M
 form-ok-spec =

@@ -6,11 +6,12 @@ use Rattle.sheet.proofs.header.link_count_ok.Tie as tie
 
 returns : tie.Need-returns
 unfolding linkCountOk
-returns c = rw (← c .links-of .ensures .0)
+returns c = rw (← c .before .links-of .ensures .0, ← c .before .before .form-of .ensures)
 
 pub link-count-ok-spec : {M : Type 1} → statement M
 link-count-ok-spec =
     tie.close
     (tie.spec
+    (λ c κs. search needs)
     (λ c κs. search needs)
     returns)

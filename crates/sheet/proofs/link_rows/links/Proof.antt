@@ -10,7 +10,8 @@ use native.Mathlib.Omega.{arith}
 use Rattle.sets.specs.Below.{all, sumTo}
 use Rattle.sets.proofs.Tests.{and-in}
 use Rattle.sets.proofs.Below.{all-none, all-step, sum-more, sum-none}
-use Rattle.sheet_rows.specs.Rows.{linkCount}
+use Rattle.sheet_rows.specs.Rows.{rowCount}
+use Rattle.sheet_rows.proofs.Rows.{row-inside}
 use Rattle.sheet.specs.Sheet.{linkOk, rowRead}
 use Rattle.sheet.proofs.Causes.{unless-false, unless-true}
 use Rattle.sheet.proofs.Links.{links-are, links-false, row-bad, row-link}
@@ -18,10 +19,11 @@ use Rattle.sheet.proofs.link_rows.links.Statement.{statement}
 use Rattle.sheet.proofs.link_rows.links.Tie as tie
 
 abbrev Inv-loop : tie.InvT-loop
-Inv-loop p k n sum₀ l₀ sum l = (l ≤ k) × (all l (linkOk p) ≡ true) × (sum ≡ sumTo l (linkCount p)) × (sum ≤ 65535 * l)
+Inv-loop p bytes k n sum₀ l₀ sum l =
+    (l ≤ k) × (all l (linkOk bytes p) ≡ true) × (sum ≡ sumTo l (rowCount bytes p)) × (sum ≤ 65535 * l)
 
 abbrev μ-loop : tie.MeasureT-loop
-μ-loop p k n sum₀ l₀ sum l = k - l
+μ-loop p bytes k n sum₀ l₀ sum l = k - l
 
 loop-holds : tie.Need-loop-holds Inv-loop μ-loop
 loop-holds c = (search needs, all-none _, sym (sum-none _), search needs)
@@ -31,21 +33,22 @@ returns c =
     let a = c .before .before .before .before .before .before .args in
     let v = c .before .before .before .before .loop in
     let e = sym (ap rowRead (c .enum-told .given .1)) ∙ c .before .before .link-row .ensures in
-    let w = row-bad (now (a .p)) (v .l) (v .sum) (v .inv .2) e in
-    unless-false _ 5 (links-false (now (a .p)) (a .k) (a .n) (v .l) (omega arith) w)
+    let w = row-bad (a .bytes) (now (a .p)) (v .l) (v .sum) (v .inv .2) e in
+    unless-false _ 5 (links-false (a .bytes) (now (a .p)) (a .k) (a .n) (v .l) (omega arith) w)
 
 -- what the row that was read tells: it is right, and its count is as the sheet has it, and below 2^16
 told : (c : tie.After-known-told Inv-loop μ-loop) →
-    let p = now (c .before .before .before .before .before .before .before .args .p) in
+    let a = c .before .before .before .before .before .before .before .args in
     let l = c .before .before .before .before .before .loop .l in
-    (linkOk p l ≡ true) × (linkCount p l ≡ c .before .first .given .0 .1 .0) × (linkCount p l < 65536)
+    (linkOk (a .bytes) (now (a .p)) l ≡ true) × (rowCount (a .bytes) (now (a .p)) l ≡ c .before .first .given .0 .1 .0)
+    × (rowCount (a .bytes) (now (a .p)) l < 65536)
 told c =
     let a = c .before .before .before .before .before .before .before .args in
     let v = c .before .before .before .before .before .loop in
     let known = c .before .before .before .before .before .before .shared-slice-known .given in
     let e = sym (ap rowRead (c .before .first .given .1)) ∙ c .before .before .before .link-row .ensures in
-    let r = row-link (now (a .p)) (v .l) (v .sum) _ _ (v .inv .2) e in
-    (r .0, r .1, omega (arith, known (4 * v .l + 2), known (4 * v .l + 2 + 1)))
+    let r = row-link (a .bytes) (now (a .p)) (v .l) (v .sum) _ _ (v .inv .2) e in
+    (r .0, r .1, omega (arith, known (a .bytes * v .l + 2), known (a .bytes * v .l + 2 + 1)))
 
 add-sum : tie.Need-add-sum Inv-loop μ-loop
 add-sum c = omega (arith, told c)
@@ -57,7 +60,7 @@ loop-again c =
     let r = told c in (
       omega arith,
       rw all-step (and-in (v .inv .1) (r .0)),
-      omega (arith, sum-more (v .l) (linkCount (now (a .p)))),
+      omega (arith, sum-more (v .l) (rowCount (a .bytes) (now (a .p)))),
       omega arith,
     )
 
@@ -66,7 +69,7 @@ returns-2 c =
     let a = c .before .before .before .before .args in
     let v = c .before .before .loop in
     let e = eq-eqb _ _ (c .if1 .taken) in
-    unless-true _ 5 (links-are (now (a .p)) (a .k) (a .n) (v .l) (v .sum) true (omega arith) (v .inv .1) (v .inv .2) e)
+    unless-true _ 5 (links-are (a .bytes) (now (a .p)) (a .k) (a .n) (v .l) (v .sum) true (omega arith) (v .inv .1) (v .inv .2) e)
 
 returns-3 : tie.Need-returns-3 Inv-loop μ-loop
 returns-3 c =
@@ -74,7 +77,7 @@ returns-3 c =
     let v = c .before .before .loop in
     let e = ne-eqb _ _ (c .if1 .left) in
     unless-false _ 5
-    (links-are (now (a .p)) (a .k) (a .n) (v .l) (v .sum) false (omega arith) (v .inv .1) (v .inv .2) e)
+    (links-are (a .bytes) (now (a .p)) (a .k) (a .n) (v .l) (v .sum) false (omega arith) (v .inv .1) (v .inv .2) e)
 
 pub links-spec : {M : Type 1} → statement M
 links-spec =
@@ -83,7 +86,10 @@ links-spec =
     Inv-loop
     μ-loop
     loop-holds
-    (λ c κs. search needs)
+    (λ c κs.
+    let a = c .before .before .before .args in
+    let r = row-inside (a .bytes) (c .before .loop .l) (a .k) (omega arith) in
+    search needs)
     (λ c. search needs)
     (λ c. search needs)
     returns

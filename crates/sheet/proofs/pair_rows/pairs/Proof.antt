@@ -10,10 +10,10 @@ use Rattle.sheet.proofs.pair_rows.pairs.Statement.{statement}
 use Rattle.sheet.proofs.pair_rows.pairs.Tie as tie
 
 abbrev Inv-loop : tie.InvT-loop
-Inv-loop ls rs p q j₀ j = (j ≤ q) × (all j (rulePairsOk ls rs p) ≡ true)
+Inv-loop s rs p q j₀ j = (j ≤ q) × (all j (rulePairsOk s rs p) ≡ true)
 
 abbrev μ-loop : tie.MeasureT-loop
-μ-loop ls rs p q j₀ j = q - j
+μ-loop s rs p q j₀ j = q - j
 
 loop-holds : tie.Need-loop-holds Inv-loop μ-loop
 loop-holds c = search (needs, all-none)

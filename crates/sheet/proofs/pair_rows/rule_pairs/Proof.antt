@@ -1,9 +1,11 @@
 -- `sheet::pair_rows::rule_pairs` meets its contract.
 use borrow.Author.Needs.{needs}
 use denote.Ref.{now}
-use Prim.Native.Nat.{_<_}
+use Prim.Native.Nat.{ℕ, _<_}
 use native.Mathlib.Omega.{arith}
 use Rattle.sets.proofs.Below.{all-none}
+use Rattle.sheet_rows.specs.Rows.{HasLink}
+use Rattle.sheet_rows.proofs.Rows.{has-link}
 use Rattle.sheet.specs.Sheet.{listed, rulePairsOk}
 use Rattle.sheet.proofs.Rules.{RuleIn, rule-in}
 use Rattle.sheet.proofs.pair_rows.rule_pairs.Statement.{statement}
@@ -22,11 +24,20 @@ row-in c =
     let r = s .pre .read in
     rule-in (now (s .args .rs)) (r .k) (s .pre .q) (r .t) (s .args .j) (r .rules) (s .pre .among)
 
+-- the rows of its links are there
+has : (c : tie.Else1) (l : ℕ) →
+    let s = c .before .before .before .before .before in l < s .pre .read .k → HasLink (now (s .args .s)) l
+has c l h =
+    let s = c .before .before .before .before .before in
+    has-link (now (s .args .s)) (s .pre .read .k) l (s .pre .read .link-rows) h
+
 link-count-requires : tie.Need-link-count-requires
-link-count-requires c κs = let f = row-in (c .before .before .before) in omega arith
+link-count-requires c κs =
+    let f = row-in (c .before .before .before) in has (c .before .before .before) _ (omega arith)
 
 link-count-requires-2 : tie.Need-link-count-requires-2
-link-count-requires-2 c κs = let f = row-in (c .before .before .before .before) in omega arith
+link-count-requires-2 c κs =
+    let f = row-in (c .before .before .before .before) in has (c .before .before .before .before) _ (omega arith)
 
 pairs-rise-requires : tie.Need-pairs-rise-requires
 pairs-rise-requires c κs =

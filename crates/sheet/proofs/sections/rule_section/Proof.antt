@@ -1,6 +1,6 @@
 -- `part-from` takes the code's part to the sheet's section.
 use borrow.Author.Needs.{needs}
-use Rattle.sheet.proofs.Parts.{part-from}
+use Rattle.sheet_rows.proofs.Rows.{part-from}
 use Rattle.sheet.proofs.sections.rule_section.Statement.{statement}
 use Rattle.sheet.proofs.sections.rule_section.Tie as tie
 

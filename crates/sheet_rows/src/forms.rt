@@ -1,0 +1,53 @@
+// The form of a sheet.
+ghost use mathlib.Core.Path.{_≡_};
+ghost use Prim.Native.Nat.{_≤_};
+ghost use lib.ListN.{length};
+ghost use Rattle.sheet_rows.specs.Form.{formBy, formOf};
+ghost use Rattle.sheet_rows.specs.Rows.{headerBytes, linkBytes};
+use crate::Form;
+use wire::word;
+
+// The form of a number.
+fn form_by(number: usize) -> Form
+    ensures { λ r. ⌜ r ≡ formBy number ⌝ }
+{
+    if number == 1 {
+        return Form {
+            known: true,
+            bytes: 4,
+            links: 64,
+            freqs: 512,
+        };
+    }
+    if number == 2 {
+        return Form {
+            known: true,
+            bytes: 8,
+            links: 64,
+            freqs: 512,
+        };
+    }
+    Form {
+        known: false,
+        bytes: 4,
+        links: 64,
+        freqs: 512,
+    }
+}
+
+// The form of the sheet s.
+pub fn form_of(s: &[u8]) -> Form
+    requires { ⌜ headerBytes ≤ length (now s) ⌝ }
+    ensures { λ r. ⌜ r ≡ formOf (now (s .entry)) ⌝ }
+{
+    form_by(word(s, 0))
+}
+
+// The bytes of a link row of the sheet s.
+pub fn link_bytes(s: &[u8]) -> usize
+    requires { ⌜ headerBytes ≤ length (now s) ⌝ }
+    ensures { λ r. ⌜ (r ≡ linkBytes (now (s .entry))) × (4 ≤ r) × (r ≤ 8) ⌝ }
+{
+    let form = form_of(s);
+    form.bytes
+}
