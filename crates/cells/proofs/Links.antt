@@ -1,6 +1,6 @@
 -- The cells of a plan, filled link by link: the link of a chosen vertex, and the cells past the links.
-use mathlib.Core.Path.{_≡_, refl, sym, ap, _∙_}
-use mathlib.Core.Bool.{Bool, true, false, _&&_}
+use mathlib.Core.Path.{_≡_, sym, ap, _∙_}
+use mathlib.Core.Bool.{Bool, false, _&&_}
 use mathlib.Core.List.{List, _++_}
 use Prim.Native.Nat.{ℕ, _+_, _-_, _≤_, _<_}
 use lib.ListN.{length, getD, drop, replicate, length-append, length-drop, length-replicate, getD-replicate}
@@ -14,10 +14,10 @@ use Rattle.sheet_rows.specs.Rows.{linkFirst, linkCount, freq}
 use Rattle.sheet.specs.Sheet.{kOf, nOf, freqPart}
 use Rattle.sheet.specs.Accepted.{Accepted}
 use Rattle.cliques.specs.Listing.{byLayer}
-use Rattle.rules.specs.Job.{Job, jobOf}
+use Rattle.rules.specs.Job.{jobOf}
 use Rattle.rules.proofs.Laws.{link-test}
 use Rattle.graph.specs.Graph.{layer}
-use Rattle.sets.specs.Below.{any, first, tabulate}
+use Rattle.sets.specs.Below.{first, tabulate}
 use Rattle.sets.proofs.Below.{first-lt}
 use Rattle.sets.proofs.Lists.{length-tabulate, getD-tabulate}
 use Rattle.cells.specs.Cells.{chosenBy, cellOf, Chosen}

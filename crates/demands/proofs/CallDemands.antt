@@ -2,7 +2,7 @@
 -- left.
 use mathlib.Core.Path.{_≡_, refl, sym, ap, subst, _∙_}
 use mathlib.Core.List.{List}
-use Prim.Native.Nat.{ℕ, _≤_, _<_}
+use Prim.Native.Nat.{ℕ, _≤_}
 use native.Mathlib.Omega.{arith}
 use lib.ListN.{length}
 use borrow.Author.Tests.{le-leb}
@@ -20,7 +20,7 @@ use Rattle.planner.specs.Outcome.{outcome}
 use Rattle.planner.specs.Planned.{gave}
 use Rattle.planner.proofs.Outcomes.{gave-outcome}
 use Rattle.planner.proofs.Found.{found-accepted}
-use Rattle.demands.specs.Demands.{Answered, Added, withFilter}
+use Rattle.demands.specs.Demands.{Answered, Added}
 use Rattle.demands.specs.CallDemands.{CallDemand1, CallDemand2, CallDemand3}
 use Rattle.demands.proofs.Demands.{demand1, demand3}
 

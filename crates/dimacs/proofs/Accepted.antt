@@ -1,24 +1,22 @@
 -- The reader accepts the sheet that is made.
-use mathlib.Core.Path.{_≡_, refl, sym, ap, _∙_}
-use mathlib.Core.Bool.{Bool, true, false}
-use mathlib.Core.List.{List, _++_}
+use mathlib.Core.Path.{_≡_, ap, _∙_}
+use mathlib.Core.Bool.{Bool, true}
+use mathlib.Core.List.{List}
 use Prim.Native.Nat.{ℕ, _≤_, _<_}
 use native.Mathlib.Omega.{arith}
-use lib.Dec.{ltb, leb, eqb}
-use lib.ListN.{length, drop}
+use lib.ListN.{length}
 use borrow.Author.Tests.{lt-ltb, le-leb, eq-eqb}
 use Rattle.sets.proofs.Tests.{and-in}
-use Rattle.wire.specs.Fields.{le32}
 use Rattle.sheet_rows.specs.declared.Form.{Form}
 use Rattle.sheet_rows.specs.Rows.{headerBytes, linkBytes}
 use Rattle.sheet_rows.proofs.Rows.{one-is}
-use Rattle.sheet.specs.Sheet.{kOf, nOf, qOf, tOf, mostRules, mostPairs, freqsAt, rulesAt, pairsAt, endAt}
+use Rattle.sheet.specs.Sheet.{kOf, nOf, qOf, tOf, mostPairs}
 use Rattle.sheet.specs.Sheet.{freqPart, rulePart, pairPart, linksOk, widthsOk, freqsOk}
 use Rattle.sheet.specs.Sheet.{rulesOk, pairsOk}
 use Rattle.sheet.proofs.Links.{no-widths}
 use Rattle.sheet.specs.Refusal.{formOk, linkCountOk, countsOk, tableOk, offsetsOk, unless, sectionCause, refusal}
 use Rattle.dimacs.specs.Reading.{verticesOf}
-use Rattle.dimacs.specs.Made.{madeBytes, linkRows, freqRows, ruleTotal, pairTotal, ruleRows, pairRows, sheetOf}
+use Rattle.dimacs.specs.Made.{madeBytes, pairTotal, sheetOf}
 use Rattle.dimacs.proofs.Fields.{sections}
 use Rattle.dimacs.proofs.Accepts.{Small, in-all, links-ok, freqs-ok, rules-ok, pairs-ok}
 use Rattle.dimacs.proofs.Few.{rules-few}

@@ -1,22 +1,20 @@
 -- The reader accepts the sheet that is made.
-use mathlib.Core.Path.{_≡_, refl, sym, ap, subst, _∙_}
-use mathlib.Core.Bool.{Bool, true, false, not, cond, _&&_, _||_}
-use mathlib.Core.List.{List, [], _∷_, _++_}
+use mathlib.Core.Path.{_≡_, refl, sym, _∙_}
+use mathlib.Core.Bool.{Bool, true, false, not, cond}
+use mathlib.Core.List.{List, _++_}
 use Prim.Native.Nat.{ℕ, zero, suc, _+_, _-_, _*_, _/_, _%_, _≤_, _<_}
 use native.Mathlib.Omega.{arith}
-use lib.Dec.{ltb, leb, eqb}
+use lib.Dec.{ltb, eqb}
 use lib.ListN.{length, getD}
-use borrow.Author.Tests.{lt-ltb, le-leb, eq-eqb, ltb-true, eqb-true, eqb-false, ne-eqb}
+use borrow.Author.Tests.{lt-ltb, le-leb, eq-eqb, ltb-true, eqb-true, eqb-false}
 use Rattle.sets.specs.Below.{all, sumTo, count}
-use Rattle.sets.proofs.Tests.{bool, clash, below, and-l, and-r, and-in, or-l, or-r, not-out}
+use Rattle.sets.proofs.Tests.{bool, and-l, and-r, and-in, or-l, or-r, not-out}
 use Rattle.sets.proofs.Below.{all-in, sum-in}
-use Rattle.sheet_rows.specs.Rows.{linkFirst, linkCount, freq, ruleA, ruleB, ruleKind, ruleCount, ruleValue}
-use Rattle.sheet_rows.specs.Rows.{pairFirst, pairSecond}
+use Rattle.sheet_rows.specs.Rows.{linkFirst, linkCount, freq}
 use Rattle.sheet.specs.Sheet.{mostKHz, linkOk, linkRowsOk, linksOk, freqOk, linkFreqsOk, freqsOk, before, plainOk, kindOk, only}
 use Rattle.sheet.specs.Sheet.{listed, ruleRises, ruleRowOk, ruleOk, rulesOk, pairRises, pairOk, rulePairsOk, pairsOk}
-use Rattle.dimacs.specs.Lists.{select}
 use Rattle.dimacs.specs.Reading.{countOf, firstOf, verticesOf}
-use Rattle.dimacs.specs.Made.{linkRows, freqRows, isPair, pairsOf, isFull, isRuled, ruled, rulePairs, ruledA}
+use Rattle.dimacs.specs.Made.{freqRows, isPair, pairsOf, isFull, isRuled, ruled, rulePairs, ruledA}
 use Rattle.dimacs.specs.Made.{ruledB, kindOf, valueOf, pairsBefore, ruleTotal, pairTotal, ruleRows, pairRows}
 use Rattle.dimacs.proofs.Lists.{Selected, select-length, select-at, select-rises}
 use Rattle.dimacs.proofs.Codes.{first-lt, second-lt, code-before}

@@ -1,26 +1,25 @@
 -- The graph of the sheet that is made is the graph it is made of.
 use mathlib.Core.Path.{_≡_, refl, sym, ap, _∙_, fun-ext}
-use mathlib.Core.Bool.{Bool, true, false, not, cond}
-use mathlib.Core.List.{List, [], _++_}
+use mathlib.Core.Bool.{Bool, true, false, not}
+use mathlib.Core.List.{List, _++_}
 use Prim.Native.Nat.{ℕ, zero, suc, _+_, _-_, _*_, _/_, _%_, _≤_, _<_}
 use native.Mathlib.Omega.{arith}
-use lib.Dec.{ltb, leb, eqb}
+use lib.Dec.{ltb, eqb}
 use lib.ListN.{length, getD}
-use borrow.Author.Tests.{lt-ltb, lt-leb, eq-eqb, ne-eqb, ltb-true, ltb-false, eqb-true, eqb-false}
+use borrow.Author.Tests.{lt-ltb, eq-eqb, ne-eqb, ltb-true, ltb-false, eqb-true, eqb-false}
 use Rattle.sets.specs.Below.{all, any, first, count}
 use Rattle.sets.proofs.Tests.{bool, clash, is-false, iff, below, and-l, and-r, and-in, not-in}
 use Rattle.sets.proofs.Below.{any-in, first-lt, first-is, sum-in, count-le, count-less}
-use Rattle.sheet_rows.specs.Rows.{linkFirst, freq, pairFirst}
-use Rattle.sheet.specs.Sheet.{mostKHz, kOf}
+use Rattle.sheet_rows.specs.Rows.{linkFirst, pairFirst}
+use Rattle.sheet.specs.Sheet.{mostKHz}
 use Rattle.rules.specs.Layers.{layerOf, InLink}
 use Rattle.rules.specs.Pairs.{distance, samePair, listsPair, agree, ofLinks, differ, allows, joins}
 use Rattle.rules.proofs.Laws.{layer-in, spaced-near}
 use Rattle.rules.proofs.Pairing.{of-in, of-out, joins-when}
-use Rattle.graph.specs.Graph.{linksDiffer, adjacent, layer, edge}
+use Rattle.graph.specs.Graph.{linksDiffer, adjacent}
 use Rattle.graph.proofs.Graph.{adjacent-out, adjacent-sym}
-use Rattle.dimacs.specs.Lists.{select}
 use Rattle.dimacs.specs.Reading.{countOf, firstOf, verticesOf, layerBy}
-use Rattle.dimacs.specs.Made.{linkRows, freqRows, isPair, pairsOf, isFull, isRuled, ruled, rulePairs, ruledA}
+use Rattle.dimacs.specs.Made.{freqRows, isPair, pairsOf, isFull, isRuled, ruled, rulePairs, ruledA}
 use Rattle.dimacs.specs.Made.{ruledB, kindOf, valueOf, pairsBefore, ruleTotal, ruleRows, pairRows, sheetOf}
 use Rattle.dimacs.specs.RoundTrip.{HasGraph}
 use Rattle.dimacs.proofs.Lists.{count-pass, select-length, select-has}

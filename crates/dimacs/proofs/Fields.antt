@@ -1,10 +1,9 @@
 -- The fields of the sheet that is made: what the reader finds in its header and in its rows.
-use mathlib.Core.Path.{_≡_, refl, sym, ap, subst, _∙_}
-use mathlib.Core.Bool.{Bool, true, false, cond}
-use mathlib.Core.List.{List, [], _∷_, _++_}
-use Prim.Native.Nat.{ℕ, zero, suc, _+_, _*_, _/_, _%_, _≤_, _<_}
+use mathlib.Core.Path.{_≡_, refl, ap, _∙_}
+use mathlib.Core.Bool.{Bool}
+use mathlib.Core.List.{List, [], _++_}
+use Prim.Native.Nat.{ℕ, zero, suc, _+_, _*_, _/_, _%_, _<_}
 use native.Mathlib.Omega.{arith}
-use native.Mathlib.Nat.{mul-add}
 use lib.ListN.{length, getD, drop, length-append, List·getD-append}
 use lib.Seq.{drop-append-add}
 use Rattle.sets.specs.Below.{sumTo}
@@ -17,9 +16,7 @@ use Rattle.sheet_rows.specs.Rows.{ruleA, ruleB, ruleKind, ruleCount, ruleValue,
 use Rattle.sheet_rows.proofs.Rows.{one-is}
 use Rattle.sheet.specs.Sheet.{kOf, nOf, qOf, tOf, freqsAt, rulesAt, pairsAt, endAt, freqPart}
 use Rattle.sheet.specs.Sheet.{rulePart, pairPart}
-use Rattle.sheet.specs.Refusal.{formOk, tableOk}
-use Rattle.wire.specs.Fields.{bytes16, bytes32}
-use Rattle.dimacs.specs.Lists.{joinTo, forEach}
+use Rattle.dimacs.specs.Lists.{joinTo}
 use Rattle.dimacs.specs.Reading.{countOf, firstOf, verticesOf}
 use Rattle.dimacs.specs.Made.{madeForm, madeBytes, header, linkRowOf, linkRows, freqRow, freqRows, pairRow}
 use Rattle.dimacs.specs.Made.{rulePairs, ruledA, ruledB}

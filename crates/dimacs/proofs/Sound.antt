@@ -1,18 +1,18 @@
 -- What texts that are read say: counts within the limits, and edges between different links.
 use mathlib.Core.Path.{_≡_, refl, sym, ap, subst, _∙_}
-use mathlib.Core.Bool.{Bool, true, false, not, cond, _&&_, _||_}
+use mathlib.Core.Bool.{Bool, true, false, _&&_, _||_}
 use mathlib.Core.Logic.{_⊎_, inl, inr}
 use mathlib.Core.List.{List, [], _∷_, _++_}
 use Prim.Native.Nat.{ℕ, zero, suc, _+_, _-_, _*_, _/_, _%_, _≤_, _<_}
 use native.Mathlib.Omega.{arith}
 use native.Mathlib.Numerals.{add-one}
 use lib.Dec.{ltb, leb, eqb}
-use lib.ListN.{length, getD, length-append, List·getD-append}
+use lib.ListN.{length, length-append, List·getD-append}
 use lib.Seq.{getD-at}
-use borrow.Author.Tests.{lt-ltb, eq-eqb, ltb-true, leb-true, eqb-true}
+use borrow.Author.Tests.{eq-eqb, ltb-true, leb-true, eqb-true}
 use Rattle.sets.specs.Below.{sumTo}
 use Rattle.sets.specs.Sets.{Set, _∪_, just, nothing}
-use Rattle.sets.proofs.Tests.{bool, case, clash, is-false, iff, below, and-l, and-r, and-in, or-l, or-r, or-case}
+use Rattle.sets.proofs.Tests.{case, clash, below, and-l, and-r, or-l, or-case}
 use Rattle.sheet_rows.specs.Form.{mostLinks, mostFreqs}
 use Rattle.dimacs.specs.Reading.{Number, noNumber, number, field, newline, space, isEmpty, countOf, firstOf}
 use Rattle.dimacs.specs.Reading.{verticesOf, layerBy, countFits, CountList, noCounts, counts, countsFrom}

@@ -50,7 +50,7 @@ graphTextOf s = graphText (nOf s) (edge (jobOf s))
 abbrev pub countsTextOf : List ℕ → List ℕ
 countsTextOf s = countsText (countsOf s)
 
--- causes 1 to 8, and 15 "a lent output too short", for outputs of g and c bytes
+-- the sheet's causes, and 15 "a lent output too short", for outputs of g and c bytes
 unfoldable pub exportCause : List ℕ → ℕ → ℕ → ℕ
 exportCause s g c =
     passing (eqb (refusal s) 0) (refusal s) λ _.

@@ -24,10 +24,10 @@ use Rattle.output.specs.Output.{padded, Wrote}
 use Rattle.output.proofs.Wrote.{wrote-padded, wrote-same}
 use Rattle.dimacs.specs.Export.{graphText, countsText, countsOf, graphTextOf, countsTextOf, exportCause, exported}
 use Rattle.dimacs.proofs.Choices.{yes-is, no-is}
-use Rattle.graph_export.specs.Rows.{rowWords, RowsHold, Puts}
+use Rattle.graph_export.specs.Rows.{rowWords, Puts}
 use Rattle.graph_export.specs.Gives.{exportNumber, mostGraph, mostCounts, BothPut, ExportFinished, ExportGives}
 use Rattle.graph_export.specs.declared.ExportAnswer.{ExportAnswer}
-use Rattle.graph_export.specs.declared.ExportAnswer.the-variants.{Written, BadSheet, Short}
+use Rattle.graph_export.specs.declared.ExportAnswer.the-variants.{BadSheet, Short}
 use Rattle.graph_export.specs.declared.Exported.{Exported}
 use Rattle.graph_export.specs.declared.Lengths.{Lengths}
 

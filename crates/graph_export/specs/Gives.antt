@@ -12,7 +12,7 @@ use Rattle.graph_export.specs.declared.ExportAnswer.the-variants.{Writte
 use Rattle.graph_export.specs.declared.Exported.{Exported}
 use Rattle.graph_export.specs.declared.Lengths.{Lengths}
 
--- 0 where both texts are written, "1 to 8", or 15 for "a lent output too short"
+-- 0 where both texts are written, the sheet's cause, or 15 for "a lent output too short"
 abbrev pub exportNumber : ExportAnswer → ℕ
 exportNumber Written = 0
 exportNumber (BadSheet cause) = causeNumber cause

@@ -1,6 +1,6 @@
 -- The outcome of a call, cause by cause, and of an accepted call.
 use mathlib.Core.Path.{_≡_, refl, sym, ap, subst, _∙_}
-use mathlib.Core.Bool.{Bool, true, false}
+use mathlib.Core.Bool.{true, false}
 use mathlib.Core.List.{List}
 use Prim.Native.Nat.{ℕ, _≤_, _<_}
 use native.Mathlib.Omega.{arith}
@@ -30,7 +30,7 @@ pub gave-outcome : {o : Outcome} {r : Planned} {cells : List ℕ} → Gives o r 
 gave-outcome g = sym (λ i. record { answer = g .answer i; nodes = g .nodes i; cells = g .cells i })
 
 module _ (job : Job) (x : Setting) (m w : ℕ) where
-  -- causes 1 to 8
+  -- the sheet's causes
   pub sheet-cause : (refusal (job .sheet) ≡ 0 → ⊥) → callRefusal job x m w ≡ refusal (job .sheet)
   unfolding callRefusal
   sheet-cause ne = rw (ne-eqb (refusal (job .sheet)) 0 ne) refl

@@ -25,7 +25,7 @@ settingCause job x m w =
     passing (leb workWords w) 11 λ _.
     unless (listOk job x) 12
 
--- causes 1 to 12: the number of the first, or 0 where the call is accepted
+-- causes 1 to 12 and 16: the number of the first, or 0 where the call is accepted
 unfoldable pub callRefusal : Job → Setting → ℕ → ℕ → ℕ
 callRefusal job x m w = passing (eqb (refusal (job .sheet)) 0) (refusal (job .sheet)) λ _. settingCause job x m w
 
@@ -33,7 +33,7 @@ callRefusal job x m w = passing (eqb (refusal (job .sheet)) 0) (refusal (job .sh
 unfoldable pub treeOf : Job → Setting → Tree
 treeOf job x = tree (x .filter) (graphIn job x) (layer job) (whole (nOf (job .sheet)))
 
--- what a call gives: a refusal number 1 to 12, 100 for found, 101 for no plan or 102 for stopped; the nodes; and every
+-- what a call gives: a refusal number 1 to 12 or 16, 100 for found, 101 for no plan or 102 for stopped; the nodes; and every
 -- plan cell
 pub record Outcome : Type 0 where
   pub answer : ℕ

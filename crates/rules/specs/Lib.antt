@@ -4,3 +4,4 @@ pub mod Parts
 pub mod Pairs
 pub mod Plans
 pub mod Asked
+pub mod Forms

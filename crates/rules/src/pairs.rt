@@ -118,7 +118,8 @@ fn row_allows(s: &[u8], j: usize, u: usize, v: usize) -> bool
     }
     let fs = freq_part(s);
     let apart = distance(freq(fs, u), freq(fs, v));
-    agree(kind, value, rule_widths(s, rs, j), apart, false)
+    let widths = rule_widths(s, rs, j);
+    agree(kind, value, widths, apart, false)
 }
 
 // Whether there is a rule row j, and it is of the links a and b.

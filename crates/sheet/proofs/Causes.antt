@@ -47,13 +47,14 @@ cause-some Frequency = lit< tt
 cause-some RuleRow = lit< tt
 cause-some PairRow = lit< tt
 
--- a reading with a cause, of a test that fails with c: the test failed, and c is the cause's number
-pub refused-is : (r : Reading) (x : Cause) (b : Bool) (c : ℕ) → numberOf r ≡ unless b c → r ≡ Refused x
-    → (b ≡ false) × (causeNumber x ≡ c)
+-- a reading with a cause, of two tests that fail with c and d: it is the cause of these tests, whatever comes after
+pub refused-is : (r : Reading) (x : Cause) (a b : Bool) (c d : ℕ) (after : Unit {0} → ℕ)
+    → numberOf r ≡ (passing a c λ _. unless b d) → r ≡ Refused x → causeNumber x ≡ (passing a c λ _. passing b d after)
 unfolding unless
-refused-is r x true c h e =
+refused-is r x true true c d after h e =
     let z = cause-some x in let w : causeNumber x ≡ 0 = sym (ap numberOf e) ∙ h in absurd (omega arith)
-refused-is r x false c h e = (refl, sym (ap numberOf e) ∙ h)
+refused-is r x true false c d after h e = sym (ap numberOf e) ∙ h
+refused-is r x false b c d after h e = sym (ap numberOf e) ∙ h
 
 -- a step of a chain of causes that ends in 0
 pub passed : (b : Bool) (c : ℕ) (after : Unit {0} → ℕ) → 0 < c → passing b c after ≡ 0 → (b ≡ true) × (after tt ≡ 0)

@@ -8,6 +8,7 @@ mod pair_rows;
 mod places;
 mod rule_rows;
 mod sections;
+mod width_rows;
 
 ghost use mathlib.Core.Path.{_≡_};
 ghost use Rattle.sheet.specs.Refusal.{causeNumber, numberOf, refusal};

@@ -1,18 +1,16 @@
-// The link section, causes 5 and 16.
+// The link section, cause 5, and 16 after all of it.
 ghost use mathlib.Core.Path.{_≡_};
 ghost use Prim.Native.Nat.{_*_, _≤_};
 ghost use lib.ListN.{length};
 ghost use Rattle.sheet_rows.specs.Form.{mostLinks};
 ghost use Rattle.sheet_rows.specs.Rows.{HasRow};
-ghost use Rattle.sheet.specs.Sheet.{linkRowsOk, linkRow, rowRead, widthOk, widthRowsOk};
-ghost use Rattle.sheet.specs.Refusal.{numberOf, unless};
+ghost use Rattle.sheet.specs.Sheet.{linkRowsOk, linkRow, rowRead};
+ghost use Rattle.sheet.specs.Refusal.{numberOf, passing, unless};
 use crate::Cause;
 use crate::Reading;
 use crate::Row;
-use crate::header::MOST_WIDTH;
 use sheet_rows::row_count;
 use sheet_rows::row_first;
-use sheet_rows::row_width;
 
 // Link row l, where it keeps its rule; `sum` is the sum of the earlier counts.
 fn link_row(p: &[u8], bytes: usize, l: usize, sum: usize) -> Row
@@ -30,10 +28,10 @@ fn link_row(p: &[u8], bytes: usize, l: usize, sum: usize) -> Row
     Row::Link { first, count }
 }
 
-// The link section, of k rows of so many bytes.
-pub fn links(p: &[u8], bytes: usize, k: usize, n: usize) -> Reading
+// The link section, of k rows of so many bytes: each row, the sum, and last of all `wide`, whether the widths are right.
+pub fn links(p: &[u8], bytes: usize, k: usize, n: usize, wide: bool) -> Reading
     requires { ⌜ (k ≤ mostLinks) × (bytes * k ≤ length (now p)) × (4 ≤ bytes) ⌝ }
-    ensures { λ r. ⌜ numberOf r ≡ unless (linkRowsOk bytes (now (p .entry)) k n) 5 ⌝ }
+    ensures { λ r. ⌜ numberOf r ≡ (passing (linkRowsOk bytes (now (p .entry)) k n) 5 λ _. unless wide 16) ⌝ }
 {
     let mut sum = 0;
     let mut l = 0;
@@ -44,33 +42,11 @@ pub fn links(p: &[u8], bytes: usize, k: usize, n: usize) -> Reading
         sum += count;
         l += 1;
     }
-    if sum == n {
-        Reading::Fine
-    } else {
-        Reading::Refused(Cause::LinkRow)
+    if sum != n {
+        return Reading::Refused(Cause::LinkRow);
     }
-}
-
-// The width of link row l, where the rows have one.
-fn width_ok(p: &[u8], bytes: usize, l: usize) -> bool
-    requires { ⌜ HasRow bytes (now p) l ⌝ }
-    ensures { λ r. ⌜ r ≡ widthOk bytes (now (p .entry)) l ⌝ }
-{
-    let width = row_width(p, bytes, l);
-    (bytes < 8) | ((0 < width) & (width <= MOST_WIDTH))
-}
-
-// The widths of the k link rows.
-pub fn widths(p: &[u8], bytes: usize, k: usize) -> bool
-    requires { ⌜ bytes * k ≤ length (now p) ⌝ }
-    ensures { λ r. ⌜ r ≡ widthRowsOk bytes (now (p .entry)) k ⌝ }
-{
-    let mut l = 0;
-    while l < k {
-        if !width_ok(p, bytes, l) {
-            return false;
-        }
-        l += 1;
+    if !wide {
+        return Reading::Refused(Cause::Width);
     }
-    true
+    Reading::Fine
 }

@@ -4,13 +4,12 @@ ghost use mathlib.Core.Path.{_≡_};
 ghost use mathlib.Core.Bool.{true};
 ghost use Rattle.sheet.specs.Sheet.{kOf, nOf, qOf, tOf, freqPart, rulePart, pairPart};
 ghost use Rattle.sheet.specs.Sheet.{linksOk, widthsOk, freqsOk, rulesOk, pairsOk};
-ghost use Rattle.sheet.specs.Refusal.{numberOf, unless, sectionCause};
+ghost use Rattle.sheet.specs.Refusal.{numberOf, passing, unless, sectionCause};
 ghost use Rattle.sheet.specs.Accepted.{Head};
 use crate::Cause;
 use crate::Reading;
 use crate::freq_rows::freqs;
 use crate::link_rows::links;
-use crate::link_rows::widths;
 use crate::pair_rows::pairs;
 use crate::places::freqs_at;
 use crate::places::freqs_of;
@@ -20,23 +19,26 @@ use crate::places::pairs_of;
 use crate::places::rules_at;
 use crate::places::rules_of;
 use crate::rule_rows::rules;
+use crate::width_rows::widths;
 use sheet_rows::link_bytes;
 
-// The link section.
-fn link_section(s: &[u8]) -> Reading
-    requires { ⌜ Head (now s) ⌝ }
-    ensures { λ r. ⌜ numberOf r
-        ≡ unless (linksOk (now (s .entry)) (kOf (now (s .entry))) (nOf (now (s .entry)))) 5 ⌝ }
-{
-    links(&s[40..], link_bytes(s), links_of(s), freqs_of(s))
-}
-
 // The widths of the link section.
-fn width_section(s: &[u8]) -> bool
+fn widths_right(s: &[u8]) -> bool
     requires { ⌜ Head (now s) ⌝ }
     ensures { λ r. ⌜ r ≡ widthsOk (now (s .entry)) (kOf (now (s .entry))) ⌝ }
 {
     widths(&s[40..], link_bytes(s), links_of(s))
+}
+
+// The link section.
+fn link_section(s: &[u8]) -> Reading
+    requires { ⌜ Head (now s) ⌝ }
+    ensures { λ r. ⌜ numberOf r ≡
+        (passing (linksOk (now (s .entry)) (kOf (now (s .entry))) (nOf (now (s .entry)))) 5 λ _.
+        unless (widthsOk (now (s .entry)) (kOf (now (s .entry)))) 16) ⌝ }
+{
+    let wide = widths_right(s);
+    links(&s[40..], link_bytes(s), links_of(s), freqs_of(s), wide)
 }
 
 // The frequency section, after the link section was accepted.
@@ -69,16 +71,13 @@ fn pair_section(s: &[u8]) -> bool
     pairs(s, &s[at..], &s[from..], rules_of(s))
 }
 
-// The sections in turn, the widths after all else of the link section.
+// The sections in turn.
 pub fn sections(s: &[u8]) -> Reading
     requires { ⌜ Head (now s) ⌝ }
     ensures { λ r. ⌜ numberOf r ≡ sectionCause (now (s .entry)) ⌝ }
 {
     if let Reading::Refused(cause) = link_section(s) {
         return Reading::Refused(cause);
-    }
-    if !width_section(s) {
-        return Reading::Refused(Cause::Width);
     }
     if !freq_section(s) {
         return Reading::Refused(Cause::Frequency);

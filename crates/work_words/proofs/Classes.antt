@@ -1,6 +1,6 @@
 -- The graph of an accepted sheet has its layers, and its class list is a partition under each choice.
 use mathlib.Core.Path.{_≡_, refl}
-use mathlib.Core.Bool.{true, false, not, _||_}
+use mathlib.Core.Bool.{true, false, not}
 use mathlib.Core.List.{List}
 use mathlib.Core.Logic.{_⊎_, inl, inr}
 use Prim.Native.Nat.{ℕ, _≤_, _<_}
@@ -11,7 +11,7 @@ use Rattle.sets.proofs.Tests.{clash, is-false, not-out, or-case}
 use Rattle.sheet.specs.Sheet.{kOf, nOf, qOf, freqPart, rulePart, pairPart}
 use Rattle.sheet.specs.Accepted.{Accepted}
 use Rattle.cliques.specs.Graph.{Layers}
-use Rattle.rules.specs.Job.{Job, jobOf}
+use Rattle.rules.specs.Job.{jobOf}
 use Rattle.rules.proofs.Laws.{layer-in}
 use Rattle.graph.specs.Graph.{layer, edge, graphOf}
 use Rattle.graph.proofs.Graph.{Adjacent, adjacent-sym, adjacent-out}

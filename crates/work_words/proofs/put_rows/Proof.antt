@@ -1,6 +1,6 @@
 -- `work_words::put_rows` meets its contract: the rows and the layers' masks are written.
 use borrow.Author.Needs.{needs}
-use mathlib.Core.Path.{_≡_, refl, _∙_}
+use mathlib.Core.Path.{refl, _∙_}
 use native.Mathlib.Omega.{arith}
 use Rattle.rules.proofs.Laws.{parts-of}
 use Rattle.work_words.proofs.Filling.{rows-put}

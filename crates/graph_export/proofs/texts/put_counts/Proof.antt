@@ -2,9 +2,7 @@
 use borrow.Author.Needs.{needs}
 use denote.Ref.{now}
 use native.Mathlib.Omega.{arith}
-use mathlib.Core.Path.{_≡_}
 use Prim.Native.Nat.{_*_, _-_, _≤_}
-use lib.ListN.{length}
 use Rattle.sets.specs.Below.{tabulate}
 use Rattle.sheet_rows.specs.Rows.{linkCount}
 use Rattle.sheet_rows.proofs.Rows.{has-link}

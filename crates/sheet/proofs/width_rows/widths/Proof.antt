@@ -1,4 +1,4 @@
--- `sheet::link_rows::widths` meets its contract.
+-- `sheet::width_rows::widths` meets its contract.
 use borrow.Author.Needs.{needs}
 use Prim.Native.Nat.{_-_, _≤_}
 use mathlib.Core.Path.{_≡_, sym}
@@ -8,8 +8,8 @@ use Rattle.sets.specs.Below.{all}
 use Rattle.sets.proofs.Below.{all-none, loop-ends, loop-goes-on, loop-stops}
 use Rattle.sheet_rows.proofs.Rows.{row-inside}
 use Rattle.sheet.specs.Sheet.{widthOk, widthRowsOk}
-use Rattle.sheet.proofs.link_rows.widths.Statement.{statement}
-use Rattle.sheet.proofs.link_rows.widths.Tie as tie
+use Rattle.sheet.proofs.width_rows.widths.Statement.{statement}
+use Rattle.sheet.proofs.width_rows.widths.Tie as tie
 
 abbrev Inv-loop : tie.InvT-loop
 Inv-loop p bytes k l₀ l = (l ≤ k) × (all l (widthOk bytes p) ≡ true)

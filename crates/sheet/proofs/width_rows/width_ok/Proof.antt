@@ -1,8 +1,8 @@
--- `sheet::link_rows::width_ok` meets its contract.
+-- `sheet::width_rows::width_ok` meets its contract.
 use borrow.Author.Needs.{needs}
 use Rattle.sheet.specs.Sheet.{widthOk}
-use Rattle.sheet.proofs.link_rows.width_ok.Statement.{statement}
-use Rattle.sheet.proofs.link_rows.width_ok.Tie as tie
+use Rattle.sheet.proofs.width_rows.width_ok.Statement.{statement}
+use Rattle.sheet.proofs.width_rows.width_ok.Tie as tie
 
 returns : tie.Need-returns
 unfolding widthOk

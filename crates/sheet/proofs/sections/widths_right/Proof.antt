@@ -4,8 +4,8 @@ use native.Mathlib.Omega.{arith}
 use lib.ListN.{length-drop}
 use Rattle.sheet_rows.proofs.Rows.{part-from}
 use Rattle.sheet.specs.Sheet.{widthsOk}
-use Rattle.sheet.proofs.sections.width_section.Statement.{statement}
-use Rattle.sheet.proofs.sections.width_section.Tie as tie
+use Rattle.sheet.proofs.sections.widths_right.Statement.{statement}
+use Rattle.sheet.proofs.sections.widths_right.Tie as tie
 
 widths-requires : tie.Need-widths-requires
 widths-requires c κs =
@@ -18,8 +18,8 @@ returns c =
     rw (← c .before .links-of .ensures .0, ← c .before .before .link-bytes .ensures .0)
     (rw part-from at (c .widths .ensures))
 
-pub width-section-spec : {M : Type 1} → statement M
-width-section-spec =
+pub widths-right-spec : {M : Type 1} → statement M
+widths-right-spec =
     tie.close
     (tie.spec
     (λ c. search needs)
