@@ -11,25 +11,9 @@ use wire::word;
 fn form_by(number: usize) -> Form
     ensures { λ r. ⌜ r ≡ formBy number ⌝ }
 {
-    if number == 1 {
-        return Form {
-            known: true,
-            bytes: 4,
-            links: 64,
-            freqs: 512,
-        };
-    }
-    if number == 2 {
-        return Form {
-            known: true,
-            bytes: 8,
-            links: 64,
-            freqs: 512,
-        };
-    }
     Form {
-        known: false,
-        bytes: 4,
+        known: (number == 1) | (number == 2),
+        bytes: if number == 2 { 8 } else { 4 },
         links: 64,
         freqs: 512,
     }
