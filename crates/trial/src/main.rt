@@ -16,42 +16,27 @@ use trial_parts::get;
 use trial_parts::kept::AT;
 use trial_parts::kept::CALLS;
 use trial_parts::kept::CHECKS;
-use trial_parts::kept::FREQUENCIES;
-use trial_parts::kept::K;
 use trial_parts::kept::LAYERED;
-use trial_parts::kept::LINKS;
 use trial_parts::kept::LIST;
 use trial_parts::kept::LISTED;
-use trial_parts::kept::N;
 use trial_parts::kept::NODE_SUMS;
-use trial_parts::kept::PAIRS;
-use trial_parts::kept::Q;
 use trial_parts::kept::REFUSED;
 use trial_parts::kept::ROOM;
 use trial_parts::kept::ROWS;
-use trial_parts::kept::RULES;
-use trial_parts::kept::T;
 use trial_parts::kept::WITH;
 use trial_parts::line_end;
-use trial_parts::make_even;
 use trial_parts::next;
 use trial_parts::next_run;
 use trial_parts::plus;
 use trial_parts::put;
-use trial_parts::put_own;
 use trial_parts::read;
+use trial_parts::reads_job;
 use trial_parts::times;
 
-// The words that begin the other rows, by their first bytes.
-const EVEN: usize = 101;
-
+// The words that begin the other rows without a job, by their first bytes.
 const LISTS: usize = 108;
 
-const OWN: usize = 111;
-
 const RANDOM: usize = 114;
-
-const SHEET: usize = 115;
 
 fn print_nodes(kept: &[usize], choice: usize) {
     let at = plus(NODE_SUMS, times(8, choice));
@@ -109,24 +94,6 @@ fn print_line(words: &[u8], kept: &mut [usize]) {
     put(kept, ROWS, 0);
 }
 
-// The counts, and then the fields in the sheet's order.
-fn read_job(job: &mut [usize]) {
-    next_run(job, K, 4);
-    next_run(job, LINKS, times(2, get(job, K)));
-    next_run(job, FREQUENCIES, get(job, N));
-    read_rules(job);
-}
-
-fn read_rules(job: &mut [usize]) {
-    next_run(job, RULES, times(5, get(job, Q)));
-    next_run(job, PAIRS, times(2, get(job, T)));
-}
-
-fn read_even(job: &mut [usize]) {
-    next_run(job, K, 4);
-    make_even(job);
-}
-
 fn read_list(kept: &mut [usize]) {
     let m = next(kept);
     next_run(kept, LIST, m);
@@ -135,17 +102,7 @@ fn read_list(kept: &mut [usize]) {
 
 // A row. Says whether all was as wanted.
 fn row(kept: &mut [usize], word: usize) -> bool {
-    if word == SHEET {
-        read_job(kept);
-        return true;
-    }
-    if word == EVEN {
-        read_even(kept);
-        return true;
-    }
-    if word == OWN {
-        read_even(kept);
-        put_own(kept);
+    if reads_job(kept, word) {
         return true;
     }
     if word == LISTS {

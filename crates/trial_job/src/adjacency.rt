@@ -17,6 +17,7 @@ use trial_parts::plus;
 use trial_parts::put;
 use trial_parts::rule_at;
 use trial_parts::times;
+use trial_parts::widths;
 
 pub fn layer(graph: &[usize], v: usize) -> usize {
     get(graph, v)
@@ -71,7 +72,8 @@ fn is_listed(job: &[usize], from: usize, m: usize, i: usize, j: usize) -> bool {
     false
 }
 
-// Whether the rule of the links a < b of two vertices allows them. Without a rule their frequencies differ.
+// Whether the rule of the links a < b of two vertices allows them. Kind 1 is between edges, all else between centres.
+// Without a rule their frequencies differ.
 fn allows(job: &[usize], a: usize, b: usize, u: usize, v: usize) -> bool {
     let at = rule_of(job, a, b);
     let apart = distance(khz(job, u), khz(job, v));
@@ -81,7 +83,7 @@ fn allows(job: &[usize], a: usize, b: usize, u: usize, v: usize) -> bool {
     let kind = get(job, plus(at, 2));
     let value = get(job, plus(at, 4));
     if kind == 1 {
-        return value <= apart;
+        return plus(plus(value, value), widths(job, a, b)) <= plus(apart, apart);
     }
     if kind == 2 {
         return value == apart;

@@ -13,6 +13,8 @@ use trial_parts::kept::N;
 use trial_parts::kept::Q;
 use trial_parts::kept::SEED;
 use trial_parts::kept::T;
+use trial_parts::kept::WIDE;
+use trial_parts::kept::WIDTHS;
 use trial_parts::less;
 use trial_parts::plus;
 use trial_parts::put;
@@ -20,6 +22,7 @@ use trial_parts::put_byte;
 use trial_parts::put_link;
 use trial_parts::put_pair;
 use trial_parts::put_rule;
+use trial_parts::times;
 
 // The next number of the sequence, below m.
 fn draw(kept: &mut [usize], m: usize) -> usize {
@@ -54,6 +57,19 @@ fn make_links(job: &mut [usize]) {
     let mut l = 0;
     while l < k {
         make_link(job, l);
+        l += 1;
+    }
+}
+
+// The form: in about half the jobs each link has a width, of one to four.
+fn make_widths(job: &mut [usize]) {
+    let wide = draw(job, 2);
+    put(job, WIDE, wide);
+    let m = times(wide, get(job, K));
+    let mut l = 0;
+    while l < m {
+        let w = plus(1, draw(job, 4));
+        put(job, plus(WIDTHS, l), w);
         l += 1;
     }
 }
@@ -136,6 +152,7 @@ pub fn make_job(job: &mut [usize])
     ensures { λ _. ⌜ length (now (job .exit)) ≡ length (now (job .entry)) ⌝ }
 {
     make_links(job);
+    make_widths(job);
     make_rules(job);
 }
 

@@ -2,7 +2,7 @@
 ghost use mathlib.Core.Path.{_≡_};
 ghost use Prim.Native.Nat.{_+_, _*_, _%_, _^_};
 ghost use lib.ListN.{getD, length};
-ghost use Rattle.trial_parts.specs.Fields.{pairAt, ruleAt, sheetLength};
+ghost use Rattle.trial_parts.specs.Fields.{linkBytes, pairAt, ruleAt, sheetLength, widthsOf};
 use crate::kept::FREQUENCIES;
 use crate::kept::K;
 use crate::kept::LINKS;
@@ -11,6 +11,8 @@ use crate::kept::PAIRS;
 use crate::kept::Q;
 use crate::kept::RULES;
 use crate::kept::T;
+use crate::kept::WIDE;
+use crate::kept::WIDTHS;
 use crate::parts::get;
 use crate::parts::plus;
 use crate::parts::put;
@@ -34,6 +36,19 @@ pub fn khz(job: &[usize], v: usize) -> usize
     ensures { λ r. ⌜ r ≡ getD (now (job .entry)) ((870 + v) % 2 ^ 64) 0 ⌝ }
 {
     get(job, plus(FREQUENCIES, v))
+}
+
+fn width(job: &[usize], link: usize) -> usize
+    ensures { λ r. ⌜ r ≡ getD (now (job .entry)) ((44238 + link) % 2 ^ 64) 0 ⌝ }
+{
+    get(job, plus(WIDTHS, link))
+}
+
+// The widths of two links together, at most 40,000; 0 in form 1.
+pub fn widths(job: &[usize], a: usize, b: usize) -> usize
+    ensures { λ r. ⌜ r ≡ widthsOf (now (job .entry)) a b ⌝ }
+{
+    times(get(job, WIDE), plus(width(job, a), width(job, b)))
 }
 
 // The place of a rule's row.
@@ -92,6 +107,31 @@ fn put_field(out: &mut [u8], width: usize, at: usize, x: usize) {
     }
 }
 
+// The bytes of a link's row.
+fn link_bytes(job: &[usize]) -> usize
+    ensures { λ r. ⌜ r ≡ linkBytes (now (job .entry)) ⌝ }
+{
+    plus(4, times(4, get(job, WIDE)))
+}
+
+// A link's row.
+fn put_link_row(job: &[usize], out: &mut [u8], link: usize) {
+    let row = plus(40, times(link_bytes(job), link));
+    put_run(job, plus(LINKS, plus(link, link)), 2, out, 2, row);
+    if get(job, WIDE) == 1 {
+        put_word(out, plus(row, 4), width(job, link));
+    }
+}
+
+fn put_link_rows(job: &[usize], out: &mut [u8]) {
+    let k = get(job, K);
+    let mut l = 0;
+    while l < k {
+        put_link_row(job, out, l);
+        l += 1;
+    }
+}
+
 // So many numbers of the job as fields of one width.
 fn put_run(job: &[usize], from: usize, m: usize, out: &mut [u8], width: usize, at: usize) {
     let mut i = 0;
@@ -127,7 +167,7 @@ fn put_offsets(out: &mut [u8], frequencies: usize, rules: usize, pairs: usize, e
 }
 
 fn put_sections(job: &[usize], out: &mut [u8], frequencies: usize, rules: usize, pairs: usize) {
-    put_run(job, LINKS, times(2, get(job, K)), out, 2, 40);
+    put_link_rows(job, out);
     put_run(job, FREQUENCIES, get(job, N), out, 4, frequencies);
     put_rules(job, out, rules);
     put_run(job, PAIRS, times(2, get(job, T)), out, 2, pairs);
@@ -137,7 +177,7 @@ fn put_sections(job: &[usize], out: &mut [u8], frequencies: usize, rules: usize,
 fn put_rest(job: &[usize], out: &mut [u8]) -> usize
     ensures { λ r. ⌜ r ≡ sheetLength (now (job .entry)) ⌝ }
 {
-    let frequencies = plus(40, times(4, get(job, K)));
+    let frequencies = plus(40, times(link_bytes(job), get(job, K)));
     let rules = plus(frequencies, times(4, get(job, N)));
     let pairs = plus(rules, times(12, get(job, Q)));
     let end = plus(pairs, times(4, get(job, T)));
@@ -150,7 +190,7 @@ fn put_rest(job: &[usize], out: &mut [u8]) -> usize
 pub fn encode(job: &[usize], out: &mut [u8]) -> usize
     ensures { λ r. ⌜ r ≡ sheetLength (now (job .entry)) ⌝ }
 {
-    put_word(out, 0, 1);
+    put_word(out, 0, plus(1, get(job, WIDE)));
     put_run(job, K, 4, out, 4, 4);
     put_rest(job, out)
 }

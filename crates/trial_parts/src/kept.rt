@@ -70,7 +70,12 @@ pub const PAIRS: usize = 11468;
 // The input's words and numbers, up to 16,384.
 pub const INPUT: usize = 27854;
 
-pub const ROOM: usize = 44238;
+// The job's widths, one a link, and 1 where its sheet is of form 2, which says them; else 0.
+pub const WIDTHS: usize = 44238;
+
+pub const WIDE: usize = 44303;
+
+pub const ROOM: usize = 44304;
 
 // The cells of a small job's graph, a table of its own: the layer of each of 32 vertices, and a row of 32 for each.
 pub const CELLS: usize = 1056;

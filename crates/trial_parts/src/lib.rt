@@ -1,13 +1,13 @@
 // Parts of the test program: reads, writes and sums at any place and of any numbers, the fields of a job, the sheet
-// that says them, jobs at the limits, and the words and numbers of the input. All of it works on plain numbers in
-// tables.
+// that says them, jobs at the limits, the words and numbers of the input, and the jobs that its rows say. All of it
+// works on plain numbers in tables.
 mod even;
 mod input;
 mod job;
 pub mod kept;
 mod parts;
+mod reading;
 
-pub use even::make_even;
 pub use even::put_own;
 pub use even::want_firsts;
 pub use input::EQUALS;
@@ -24,6 +24,7 @@ pub use job::put_link;
 pub use job::put_pair;
 pub use job::put_rule;
 pub use job::rule_at;
+pub use job::widths;
 pub use parts::after;
 pub use parts::distance;
 pub use parts::either;
@@ -40,3 +41,4 @@ pub use parts::put_cell;
 pub use parts::put_half;
 pub use parts::put_word;
 pub use parts::times;
+pub use reading::reads_job;

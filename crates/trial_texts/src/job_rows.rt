@@ -1,52 +1,15 @@
 // The rows with a job, and on its sheet. Each says whether all was as wanted.
 use trial_parts::encode;
 use trial_parts::first_bytes;
-use trial_parts::get;
-use trial_parts::kept::FREQUENCIES;
-use trial_parts::kept::K;
-use trial_parts::kept::LINKS;
-use trial_parts::kept::N;
-use trial_parts::kept::PAIRS;
-use trial_parts::kept::Q;
-use trial_parts::kept::RULES;
-use trial_parts::kept::T;
-use trial_parts::make_even;
 use trial_parts::next;
-use trial_parts::next_run;
-use trial_parts::put_own;
-use trial_parts::times;
+use trial_parts::reads_job;
 use trial_texts_calls::exports;
 use trial_texts_there::comes_there;
 
-// The words that begin a row with a job, by their first bytes.
-const EVEN: usize = 101;
-
-const OWN: usize = 111;
-
-const SHEET: usize = 115;
-
-// Those that begin a row on the job's sheet.
+// The words that begin a row on the job's sheet, by their first bytes.
 const ANSWER: usize = 97;
 
 const THERE: usize = 116;
-
-// The counts, and then the fields in the sheet's order.
-fn read_job(job: &mut [usize]) {
-    next_run(job, K, 4);
-    next_run(job, LINKS, times(2, get(job, K)));
-    next_run(job, FREQUENCIES, get(job, N));
-    read_rules(job);
-}
-
-fn read_rules(job: &mut [usize]) {
-    next_run(job, RULES, times(5, get(job, Q)));
-    next_run(job, PAIRS, times(2, get(job, T)));
-}
-
-fn read_even(job: &mut [usize]) {
-    next_run(job, K, 4);
-    make_even(job);
-}
 
 // `answer`: the number of the export of a sheet that is refused.
 fn answer_row(kept: &mut [usize], sheet: &[u8]) -> bool {
@@ -77,17 +40,7 @@ fn row_on_sheet(kept: &mut [usize], word: usize) -> bool {
 
 // A row with a job, or on the job's sheet.
 pub fn job_row(kept: &mut [usize], word: usize) -> bool {
-    if word == SHEET {
-        read_job(kept);
-        return true;
-    }
-    if word == EVEN {
-        read_even(kept);
-        return true;
-    }
-    if word == OWN {
-        read_even(kept);
-        put_own(kept);
+    if reads_job(kept, word) {
         return true;
     }
     row_on_sheet(kept, word)

@@ -56,7 +56,7 @@ fn is_too_many(kept: &mut [usize], text: &[u8], sizes: &[u8]) -> bool {
     imports(kept, text, sizes, &mut again, 15, b"")
 }
 
-// The way back, by the sheet that the graph asks for.
+// The way back, by the sheet that the graph asks for, of form 1: the table ends before a job's widths and form.
 pub fn comes_back(
     kept: &mut [usize],
     sheet: &[u8],

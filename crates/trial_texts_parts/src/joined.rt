@@ -16,6 +16,7 @@ use trial_parts::plus;
 use trial_parts::put_byte;
 use trial_parts::rule_at;
 use trial_parts::times;
+use trial_parts::widths;
 
 // The place of the row of the rule of links a and b, 0 where there is none.
 fn rule_of(job: &[usize], a: usize, b: usize) -> usize {
@@ -33,8 +34,8 @@ fn rule_of(job: &[usize], a: usize, b: usize) -> usize {
     0
 }
 
-// Whether the rule at a place, 0 for none, joins frequencies so far apart. Without a rule those that differ are joined.
-// The pairs of kind 3 are put afterwards.
+// Whether the rule at a place, 0 for none, joins frequencies so far apart: kind 1 by their edges. Without a rule those
+// that differ are joined. The pairs of kind 3 are put afterwards.
 fn joins(job: &[usize], at: usize, apart: usize) -> bool {
     if at == 0 {
         return apart != 0;
@@ -42,7 +43,8 @@ fn joins(job: &[usize], at: usize, apart: usize) -> bool {
     let kind = get(job, plus(at, 2));
     let value = get(job, plus(at, 4));
     if kind == 1 {
-        return value <= apart;
+        let both = widths(job, get(job, at), get(job, plus(at, 1)));
+        return plus(plus(value, value), both) <= plus(apart, apart);
     }
     if kind == 2 {
         return value == apart;
