@@ -59,11 +59,11 @@ parts-same s f g h i j l = rw (f, g, h, i, j, l)
 
 -- layers
 
-pub layer-same : (p cs : List ℕ) (m : ℕ) → ((l : ℕ) → l < m → linkFirst p l ≡ firstOf cs l) → (v : ℕ)
-    → layerOf p m v ≡ layerBy cs m v
+pub layer-same : (s cs : List ℕ) (m : ℕ) → ((l : ℕ) → l < m → linkFirst s l ≡ firstOf cs l) → (v : ℕ)
+    → layerOf s m v ≡ layerBy cs m v
 unfolding layerOf layerBy
-layer-same p cs zero h v = refl
-layer-same p cs (suc m) h v = rw (h m (omega arith), layer-same p cs m (λ l b. h l (omega arith)) v)
+layer-same s cs zero h v = refl
+layer-same s cs (suc m) h v = rw (h m (omega arith), layer-same s cs m (λ l b. h l (omega arith)) v)
 
 -- v is a vertex of link l
 pub record In (cs : List ℕ) (l v : ℕ) : Type 0 where

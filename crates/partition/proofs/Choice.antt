@@ -11,12 +11,12 @@ use Rattle.rules.specs.Layers.{layerOf}
 use Rattle.partition.specs.Choice.{classList}
 use Rattle.partition.specs.Partition.{built, classes}
 
-pub layer-small : (p : List ℕ) (k v : ℕ) → layerOf p k v ≤ k
+pub layer-small : (s : List ℕ) (k v : ℕ) → layerOf s k v ≤ k
 unfolding layerOf
-layer-small p zero v = omega arith
-layer-small p (suc m) v = bool (leb (linkFirst p m) v)
+layer-small s zero v = omega arith
+layer-small s (suc m) v = bool (leb (linkFirst s m) v)
     (λ t. rw t (omega arith))
-    (λ t. rw t (omega (arith, layer-small p m v)))
+    (λ t. rw t (omega (arith, layer-small s m v)))
 
 -- `made` has the built classes for choice 1, and the layers otherwise
 pub class-list-is : (n k : ℕ) (adj : ℕ → ℕ → Bool) (choice : ℕ) (layers callers made : List ℕ)

@@ -31,64 +31,64 @@ use Rattle.rules.specs.Pairs.{spaced, agree}
 use Rattle.rules.specs.Plans.{cellsOf, checked, placeOf, hasFreq, vertexOf, inLists}
 use Rattle.rules.specs.Asked.{RowAt, Taken, inList}
 
--- the layers of an accepted link section
+-- the layers of a sheet whose link section is accepted
 
-module _ (p : List ℕ) (k n : ℕ) (ok : linksOk p k n ≡ true) where
-  layer-is : (m l v : ℕ) → m ≤ k → l < m → InLink p l v → layerOf p m v ≡ l
+module _ (s : List ℕ) (k n : ℕ) (ok : linksOk s k n ≡ true) where
+  layer-is : (m l v : ℕ) → m ≤ k → l < m → InLink s l v → layerOf s m v ≡ l
   unfolding layerOf
   layer-is zero l v g h i = absurd (omega arith)
   layer-is (suc m) l v g h i = below l m h
       (λ b.
-      let d = link-first p k n ok l (omega arith) in
-      let e = link-first p k n ok m (omega arith) in
-      let x : v < linkFirst p m = omega (arith, sum-in m l (linkCount p) b, d, e, i .high) in
-      rw (lt-leb (linkFirst p m) v x) (layer-is m l v (omega arith) b i))
-      (λ e. let x : linkFirst p m ≤ v = rw e at (i .low) in rw (le-leb (linkFirst p m) v x) (sym e))
+      let d = link-first s k n ok l (omega arith) in
+      let e = link-first s k n ok m (omega arith) in
+      let x : v < linkFirst s m = omega (arith, sum-in m l (linkCount s) b, d, e, i .high) in
+      rw (lt-leb (linkFirst s m) v x) (layer-is m l v (omega arith) b i))
+      (λ e. let x : linkFirst s m ≤ v = rw e at (i .low) in rw (le-leb (linkFirst s m) v x) (sym e))
 
-  layer-at : (m v : ℕ) → m ≤ k → v < sumTo m (linkCount p) → (layerOf p m v < m) × InLink p (layerOf p m v) v
+  layer-at : (m v : ℕ) → m ≤ k → v < sumTo m (linkCount s) → (layerOf s m v < m) × InLink s (layerOf s m v) v
   unfolding layerOf sumTo
   layer-at zero v g h = absurd (omega arith)
-  layer-at (suc m) v g h = bool (leb (linkFirst p m) v)
+  layer-at (suc m) v g h = bool (leb (linkFirst s m) v)
       (λ e.
-      let x = leb-true (linkFirst p m) v e in
-      rw e (omega arith, record { low = x; high = omega (arith, link-first p k n ok m (omega arith)) }))
+      let x = leb-true (linkFirst s m) v e in
+      rw e (omega arith, record { low = x; high = omega (arith, link-first s k n ok m (omega arith)) }))
       (λ e.
-      let x = leb-false (linkFirst p m) v e in
-      let r = layer-at m v (omega arith) (omega (arith, link-first p k n ok m (omega arith))) in
+      let x = leb-false (linkFirst s m) v e in
+      let r = layer-at m v (omega arith) (omega (arith, link-first s k n ok m (omega arith))) in
       rw e (omega (arith, r .0), r .1))
 
   -- a vertex of link l is in layer l, and a vertex is in the link of its layer
-  pub layer-of : (l v : ℕ) → l < k → InLink p l v → layerOf p k v ≡ l
+  pub layer-of : (l v : ℕ) → l < k → InLink s l v → layerOf s k v ≡ l
   layer-of l v h i = layer-is k l v (omega arith) h i
 
-  pub layer-in : (v : ℕ) → v < n → (layerOf p k v < k) × InLink p (layerOf p k v) v
-  layer-in v h = layer-at k v (omega arith) (omega (arith, link-sum p k n ok))
+  pub layer-in : (v : ℕ) → v < n → (layerOf s k v < k) × InLink s (layerOf s k v) v
+  layer-in v h = layer-at k v (omega arith) (omega (arith, link-sum s k n ok))
 
   -- a vertex of a link is among the n
-  pub in-link-lt : (l v : ℕ) → l < k → InLink p l v → v < n
-  in-link-lt l v h i = omega (arith, link-in p k n ok l h, i .high)
+  pub in-link-lt : (l v : ℕ) → l < k → InLink s l v → v < n
+  in-link-lt l v h i = omega (arith, link-in s k n ok l h, i .high)
 
   -- v stands from the first vertex of link l to its end just where l is its layer
   pub link-test : (l v : ℕ) → l < k → v < n
-      → leb (linkFirst p l) v && ltb v (linkFirst p l + linkCount p l) ≡ eqb l (layerOf p k v)
+      → leb (linkFirst s l) v && ltb v (linkFirst s l + linkCount s l) ≡ eqb l (layerOf s k v)
   link-test l v h b = iff _ _
-      (λ e. eq-eqb l (layerOf p k v) (sym (layer-of l v h (record {
-        low = leb-true (linkFirst p l) v (and-l (leb (linkFirst p l) v) _ e);
-        high = ltb-true v (linkFirst p l + linkCount p l) (and-r (leb (linkFirst p l) v) _ e);
+      (λ e. eq-eqb l (layerOf s k v) (sym (layer-of l v h (record {
+        low = leb-true (linkFirst s l) v (and-l (leb (linkFirst s l) v) _ e);
+        high = ltb-true v (linkFirst s l + linkCount s l) (and-r (leb (linkFirst s l) v) _ e);
       }))))
       (λ e.
-      let q = eqb-true l (layerOf p k v) e in
-      let i : InLink p l v = rw q (layer-in v b .1) in
+      let q = eqb-true l (layerOf s k v) e in
+      let i : InLink s l v = rw q (layer-in v b .1) in
       and-in (le-leb _ _ (i .low)) (lt-ltb _ _ (i .high)))
 
 -- the steps of the loop for the layer
-pub layer-hit : (p : List ℕ) (l m v : ℕ) → l ≡ m + 1 → linkFirst p m ≤ v → layerOf p l v ≡ m
+pub layer-hit : (s : List ℕ) (l m v : ℕ) → l ≡ m + 1 → linkFirst s m ≤ v → layerOf s l v ≡ m
 unfolding layerOf
-layer-hit p l m v q h = rw (q, add-one, le-leb (linkFirst p m) v h)
+layer-hit s l m v q h = rw (q, add-one, le-leb (linkFirst s m) v h)
 
-pub layer-down : (p : List ℕ) (l m v : ℕ) → l ≡ m + 1 → v < linkFirst p m → layerOf p l v ≡ layerOf p m v
+pub layer-down : (s : List ℕ) (l m v : ℕ) → l ≡ m + 1 → v < linkFirst s m → layerOf s l v ≡ layerOf s m v
 unfolding layerOf
-layer-down p l m v q h = rw (q, add-one, lt-leb (linkFirst p m) v h)
+layer-down s l m v q h = rw (q, add-one, lt-leb (linkFirst s m) v h)
 
 -- the sections of an accepted sheet
 

@@ -27,15 +27,10 @@ const OWN: usize = 111;
 
 const SHEET: usize = 115;
 
-// The counts. The sheet is of form 1, until a row gives widths.
-fn read_counts(job: &mut [usize]) {
-    next_run(job, K, 4);
-    put(job, WIDE, 0);
-}
-
-// The counts, and then the fields in the sheet's order.
+// The counts, and then the fields in the sheet's order. It is of form 1, until a row gives widths.
 fn read_sheet(job: &mut [usize]) {
-    read_counts(job);
+    put(job, WIDE, 0);
+    next_run(job, K, 4);
     next_run(job, LINKS, times(2, get(job, K)));
     next_run(job, FREQUENCIES, get(job, N));
     read_rules(job);
@@ -47,14 +42,9 @@ fn read_rules(job: &mut [usize]) {
 }
 
 fn read_even(job: &mut [usize]) {
-    read_counts(job);
+    put(job, WIDE, 0);
+    next_run(job, K, 4);
     make_even(job);
-}
-
-// A width for each link: the sheet becomes one of form 2.
-fn read_widths(job: &mut [usize]) {
-    next_run(job, WIDTHS, get(job, K));
-    put(job, WIDE, 1);
 }
 
 // Reads a row with a job. Says whether the word begins one.
@@ -75,7 +65,8 @@ pub fn reads_job(job: &mut [usize], word: usize) -> bool
         return true;
     }
     if word == KHZ {
-        read_widths(job);
+        put(job, WIDE, 1);
+        next_run(job, WIDTHS, get(job, K));
         return true;
     }
     false
