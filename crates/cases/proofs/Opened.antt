@@ -40,8 +40,9 @@ openSets = tt
 
 unfoldable pub openSheet : Unit {0}
 unfolding Form.formBy Rows.linkFirst Rows.linkCount Rows.linkWidth Sheet.linkOk Sheet.linkRowsOk Sheet.linksOk
-    Sheet.widthOk Sheet.widthRowsOk Sheet.widthsOk Sheet.freqOk Sheet.linkFreqsOk Sheet.freqsOk Sheet.before Sheet.plainOk
-    Sheet.kindOk Sheet.listed Sheet.ruleRises Sheet.ruleRowOk Sheet.ruleOk Sheet.rulesOk Sheet.pairRises Sheet.pairOk
+    Sheet.widthOk Sheet.widthRowsOk Sheet.widthsOk Sheet.freqOk Sheet.linkFreqsOk Sheet.freqsOk Sheet.before
+    Sheet.plainOk Sheet.kindOk Sheet.listed Sheet.ruleRises Sheet.ruleRowOk Sheet.ruleOk Sheet.rulesOk Sheet.pairRises
+    Sheet.pairOk
     Sheet.rulePairsOk Sheet.pairsOk Refusal.formOk Refusal.linkCountOk Refusal.countsOk Refusal.tableOk
     Refusal.offsetsOk Refusal.unless Refusal.sectionCause Refusal.refusal
 openSheet = tt
@@ -52,8 +53,8 @@ unfolding Plans.placeOf Plans.hasFreq Plans.vertexOf Plans.inLists Plans.pairKep
 openCheck = tt
 
 unfoldable pub openGraph : Unit {0}
-unfolding Pairs.distance Pairs.samePair Pairs.listsPair Pairs.spaced Pairs.agree Pairs.ruleWidths Pairs.ofLinks Pairs.differ Pairs.allows Pairs.joins
-    Layers.layerOf
+unfolding Pairs.distance Pairs.samePair Pairs.listsPair Pairs.spaced Pairs.agree Pairs.ruleWidths
+    Pairs.ofLinks Pairs.differ Pairs.allows Pairs.joins Layers.layerOf
     Micro.linksDiffer Micro.adjacent Graph.inClass Graph.size Graph.some Graph.lone Graph.two Graph.lower Graph.isOpen
     Listing.byLayer
 openGraph = tt

@@ -133,8 +133,8 @@ cases =
     plans example3 (1 ∷ []) (0 ∷ []) (noPlanIn 2 (0 ∷ 0 ∷ 0 ∷ [])) ∷
     plans example3 (4 ∷ []) (0 ∷ []) (noPlanIn 1 (0 ∷ 0 ∷ 0 ∷ [])) ∷ []
 
--- Ask 2: "A listed kind 3 pair may still be equal. The rule-less sheet of document 01 becomes no plan with 0 nodes under
--- filter 7"
+-- Ask 2: "A listed kind 3 pair may still be equal. The rule-less sheet of document 01 becomes no plan with 0 nodes
+-- under filter 7"
 abbrev pub oneCarrier : List RuleGiven → List ℕ
 oneCarrier rules = encode ((500000 ∷ []) ∷ (500000 ∷ []) ∷ []) rules
 

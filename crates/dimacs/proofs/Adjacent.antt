@@ -53,8 +53,8 @@ either a b ne f g = bool (ltb a b) (λ e. f (ltb-true a b e)) (λ e. g (lower (l
     lower h = omega (arith, ne)
 
 -- adjacency by equal sections and counts
-parts-same : (s : List ℕ) {b b′ c c′ d d′ : List ℕ} {k k′ n n′ q q′ : ℕ} → b ≡ b′ → c ≡ c′ → d ≡ d′ → k ≡ k′ → n ≡ n′ → q ≡ q′
-    → _≡_ {A = ℕ → ℕ → Bool} (λ u v. adjacent s b c d k n q u v) (adjacent s b′ c′ d′ k′ n′ q′)
+parts-same : (s : List ℕ) {b b′ c c′ d d′ : List ℕ} {k k′ n n′ q q′ : ℕ} → b ≡ b′ → c ≡ c′ → d ≡ d′ → k ≡ k′
+    → n ≡ n′ → q ≡ q′ → _≡_ {A = ℕ → ℕ → Bool} (λ u v. adjacent s b c d k n q u v) (adjacent s b′ c′ d′ k′ n′ q′)
 parts-same s f g h i j l = rw (f, g, h, i, j, l)
 
 -- layers

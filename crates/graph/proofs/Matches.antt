@@ -39,9 +39,10 @@ module _ {sheet fs rs ps : List ℕ} {k n q t : ℕ} (P : Parts sheet fs rs ps k
       → freq fs (linkFirst sheet l + i) < freq fs (linkFirst sheet l + suc i)
   unfolding freqsOk linkFreqsOk freqOk
   next-rises l i h b =
-      let g = all-out (linkCount sheet l) (freqOk fs (linkFirst sheet l)) (all-out k (linkFreqsOk sheet fs) (P .freqs) l h)
-      (suc i) b in
-      let r = and-r (ltb 0 (freq fs (linkFirst sheet l + suc i)) && leb (freq fs (linkFirst sheet l + suc i)) mostKHz) _ g in
+      let x = freq fs (linkFirst sheet l + suc i) in
+      let g = all-out (linkCount sheet l) (freqOk fs (linkFirst sheet l))
+      (all-out k (linkFreqsOk sheet fs) (P .freqs) l h) (suc i) b in
+      let r = and-r (ltb 0 x && leb x mostKHz) _ g in
       let e : linkFirst sheet l + suc i - 1 ≡ linkFirst sheet l + i = omega arith in
       ltb-true (freq fs (linkFirst sheet l + i)) (freq fs (linkFirst sheet l + suc i))
       (rw (e, ne-eqb (suc i) 0 (λ z. omega arith)) at r)
@@ -80,7 +81,8 @@ module _ {sheet fs rs ps : List ℕ} {k n q t : ℕ} (P : Parts sheet fs rs ps k
       let a = i .low in
       let b = i .high in
       let e : linkFirst sheet l + d ≡ v = omega arith in
-      let p : placeOf fs (linkFirst sheet l) (linkCount sheet l) (freq fs v) ≡ d = rw e at (place-at l d h (omega arith)) in
+      let p : placeOf fs (linkFirst sheet l) (linkCount sheet l) (freq fs v) ≡ d =
+      rw e at (place-at l d h (omega arith)) in
       (omega arith, any-in (linkCount sheet l) _ d (omega arith) (rw e (eq-eqb (freq fs v) (freq fs v) refl)))
 
   -- the frequency of a frequency's vertex is that frequency
@@ -142,7 +144,8 @@ module _ {sheet fs rs ps : List ℕ} {k n q t : ℕ} (P : Parts sheet fs rs ps k
 
     kept-joins : (i j : ℕ) → i < k → j < k → (i ≡ j → ⊥) → Dec (i < j) → joins sheet fs rs ps q i j (vs i) (vs j) ≡ true
     kept-joins i j h g ne (yes l) = kept-pair i j l g
-    kept-joins i j h g ne (no l) = joins-turned sheet fs rs ps q i j (vs i) (vs j) ne ∙ kept-pair j i (omega (arith, ne)) h
+    kept-joins i j h g ne (no l) = joins-turned sheet fs rs ps q i j (vs i) (vs j) ne
+        ∙ kept-pair j i (omega (arith, ne)) h
 
     pub keeps-clique : Clique G 0 (whole n) vs
     unfolding whole
@@ -154,7 +157,8 @@ module _ {sheet fs rs ps : List ℕ} {k n q t : ℕ} (P : Parts sheet fs rs ps k
     }
 
   -- only the first k entries of an assignment are read
-  pub keeps-same : (f g : ℕ → ℕ) → ((l : ℕ) → l < k → f l ≡ g l) → keeps sheet fs rs ps k q f ≡ keeps sheet fs rs ps k q g
+  pub keeps-same : (f g : ℕ → ℕ) → ((l : ℕ) → l < k → f l ≡ g l)
+      → keeps sheet fs rs ps k q f ≡ keeps sheet fs rs ps k q g
   unfolding keeps inLists linkKept pairKept
   keeps-same f g h = ap₂ (λ a b. a && b)
       (all-same k _ _ (λ l i. ap (hasFreq sheet fs l) (h l i)))

@@ -56,8 +56,8 @@ pub link-written : {sheet p₀ p₁ p₂ : List ℕ} {k n w graph : ℕ} → Lin
     → Put (setAt p₀ w full ∖ stretch (linkFirst sheet l) (linkFirst sheet l + linkCount sheet l)) w row p₀ p₁
     → Rewritten (λ (u : ℕ) (S : Set). rowAt p₁ w graph (linkFirst sheet l)) (linkFirst sheet l + 1)
     (linkFirst sheet l + linkCount sheet l) w graph n p₁ p₂
-    → Rewritten (λ (u : ℕ) (S : Set). linksDiffer sheet k n u) (linkFirst sheet l) (linkFirst sheet l + linkCount sheet l)
-    w graph n p₀ p₂
+    → Rewritten (λ (u : ℕ) (S : Set). linksDiffer sheet k n u) (linkFirst sheet l)
+    (linkFirst sheet l + linkCount sheet l) w graph n p₀ p₂
 link-written {sheet} {p₀} {p₁} {p₂} {k} {n} {w} {graph} L full l row h here e P R =
     let i = link-in sheet k n (L .links) l h in
     let s = link-some sheet k n (L .links) l h in
@@ -133,7 +133,8 @@ module _ {sheet fs rs ps : List ℕ} {k n q t : ℕ} (P : Parts sheet fs rs ps k
   stretch-layer l v h b = link-test sheet k n (P .links) l v h b
 
   stretch-past : (l v : ℕ) → l < k → (v < n → ⊥) → of l v ≡ false
-  stretch-past l v g o = is-false _ (λ e. let x = stretch-out (linkFirst sheet l) (linkFirst sheet l + linkCount sheet l) v e in
+  stretch-past l v g o = is-false _ (λ e.
+      let x = stretch-out (linkFirst sheet l) (linkFirst sheet l + linkCount sheet l) v e in
       omega (arith, link-in sheet k n (P .links) l g, o))
 
   -- a vertex of link l is of no other
@@ -174,7 +175,8 @@ module _ {sheet fs rs ps : List ℕ} {k n q t : ℕ} (P : Parts sheet fs rs ps k
     -- its vertex with those of the other link m
     ruled-side : (t : Bool) (l m : ℕ) → m < k → (l ≡ m → ⊥) → (u : ℕ) → u < n → l ≡ layerOf sheet k u → (said : Set)
         → ((v : ℕ) → allowed fs ps (sideOf sheet rs j t l m) u v ≡ of m v && said v)
-        → ((v : ℕ) → m ≡ layerOf sheet k v → joins sheet fs rs ps (j + 1) (layerOf sheet k u) (layerOf sheet k v) u v ≡ said v)
+        → ((v : ℕ) → m ≡ layerOf sheet k v
+        → joins sheet fs rs ps (j + 1) (layerOf sheet k u) (layerOf sheet k v) u v ≡ said v)
         → ((v : ℕ) → (m ≡ layerOf sheet k v → ⊥) → (ofLinks rs (layerOf sheet k u) (layerOf sheet k v) j ≡ false)
         × (ofLinks rs (layerOf sheet k v) (layerOf sheet k u) j ≡ false))
         → underRule fs ps (sideOf sheet rs j t l m) u (adj j u) ≡ adj (j + 1) u

@@ -126,8 +126,8 @@ module _ {sheet fs rs ps : List ℕ} {k n q t : ℕ} (P : Parts sheet fs rs ps k
       let m = linkCount sheet (ruleA rs j) in
       let o = linkCount sheet (ruleB rs j) in
       let y = ruleValue rs j + i in
-      let g = all-out (listed rs j) (pairOk ps (ruleValue rs j) m o) (all-out q (rulePairsOk sheet rs ps) (P .pairs) j b)
-      i (omega arith) in
+      let g = all-out (listed rs j) (pairOk ps (ruleValue rs j) m o)
+      (all-out q (rulePairsOk sheet rs ps) (P .pairs) j b) i (omega arith) in
       let z = and-l (ltb (pairFirst ps y) m && ltb (pairSecond ps y) o) _ g in (
         omega (arith, P .pair-rows),
         ltb-true (pairFirst ps y) m (and-l (ltb (pairFirst ps y) m) _ z),

@@ -25,9 +25,9 @@ use start::start_rows;
 use strike::rule_side;
 use strike::side;
 
-// One side of a rule row: its kind, value and count; the widths of its links together; the vertices of one of its links, from `from` up to `upto`, whose
-// rows it changes; and those of its other link, from `first` up to `end`, of which it leaves there what it allows.
-// `turned` where the other link is the lower one.
+// One side of a rule row: its kind, value and count; the widths of its links together; the vertices of one of its links,
+// from `from` up to `upto`, whose rows it changes; and those of its other link, from `first` up to `end`, of which it
+// leaves there what it allows. `turned` where the other link is the lower one.
 struct Side {
     pub kind: usize,
     pub value: usize,
@@ -89,8 +89,8 @@ fn build_rows(
     }
 }
 
-// The rows of the graph of an accepted sheet. Links are looked up in the sheet; each other section is the part of it that
-// begins at its offset.
+// The rows of the graph of an accepted sheet. Links are looked up in the sheet; each other section is the part of it
+// that begins at its offset.
 pub fn build_graph(part: &mut [u64], place: Place, sheet: &[u8])
     requires { ⌜ RowsAsked (now sheet) place (length (now part)) ⌝ }
     ensures { λ r. ⌜ Built (edge (jobOf (now (sheet .entry)))) (place .w) (place .graph) (place .n)

@@ -33,8 +33,8 @@ callRefusal job x m w = passing (eqb (refusal (job .sheet)) 0) (refusal (job .sh
 unfoldable pub treeOf : Job → Setting → Tree
 treeOf job x = tree (x .filter) (graphIn job x) (layer job) (whole (nOf (job .sheet)))
 
--- what a call gives: a refusal number 1 to 12 or 16, 100 for found, 101 for no plan or 102 for stopped; the nodes; and every
--- plan cell
+-- what a call gives: a refusal number 1 to 12 or 16, 100 for found, 101 for no plan or 102 for stopped; the nodes;
+-- and every plan cell
 pub record Outcome : Type 0 where
   pub answer : ℕ
   pub nodes : ℕ

@@ -11,9 +11,10 @@ use Rattle.sheet_rows.specs.Rows.{linkFirst, linkCount, freq, ruleKind, ruleVal
 use Rattle.sheet.specs.Sheet.{kOf, nOf, qOf, widthsOk, freqPart, rulePart, pairPart}
 use Rattle.rules.specs.Pairs.{distance, allows}
 
--- A sheet of form 1 is read and judged as document 01 says, so that all of its definitions give what they gave: its form
--- is known, "k is 1 to 64, n 1 to 512", a link row is "16-bit first frequency, 16-bit count" in four bytes, "the offsets
--- are 40, 40 + 4k, that + 4n, that + 12q", no width refuses it, and for kind 1 "the frequencies differ by at least value"
+-- A sheet of form 1 is read and judged as document 01 says, so that all definitions give what they gave: its form is
+-- known, "k is 1 to 64, n 1 to 512", a link row is "16-bit first frequency, 16-bit count" in four bytes, "the offsets
+-- are 40, 40 + 4k, that + 4n, that + 12q", no width refuses it, and for kind 1 "the frequencies differ by at least
+-- value"
 pub record FormOne (s : List ℕ) : Type 0 where
   pub known : formOf s .known ≡ true
   pub links : formOf s .links ≡ 64

@@ -56,7 +56,8 @@ abbrev pub yesNo : Bool → ℕ
 yesNo true = 100
 yesNo false = 0
 
--- "The check knows 1 to 8 and 10", and 16 with the sheet's: the refusal number, 10 for "fewer than k plan cells", else yes or no
+-- "The check knows 1 to 8 and 10", and 16 with the sheet's: the refusal number, 10 for "fewer than k plan cells", else
+-- yes or no
 unfoldable pub checked : Job → List ℕ → ℕ
 checked job cells =
     let s = job .sheet in

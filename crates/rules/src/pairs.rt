@@ -99,7 +99,8 @@ fn lists_vertices(s: &[u8], j: usize, u: usize, v: usize) -> bool
 
 // The widths of the two links of rule row j together.
 fn rule_widths(s: &[u8], rs: &[u8], j: usize) -> usize
-    requires { ⌜ HasRow ruleBytes (now rs) j × HasLink (now s) (ruleA (now rs) j) × HasLink (now s) (ruleB (now rs) j) ⌝ }
+    requires { ⌜ HasRow ruleBytes (now rs) j × HasLink (now s) (ruleA (now rs) j)
+        × HasLink (now s) (ruleB (now rs) j) ⌝ }
     ensures { λ r. ⌜ r ≡ ruleWidths (now (s .entry)) (now (rs .entry)) j ⌝ }
 {
     link_width(s, rule_a(rs, j)) + link_width(s, rule_b(rs, j))

@@ -1,4 +1,5 @@
--- A sheet that no cause refuses is accepted: what each test of the chain of causes says. No cause has a number above 16.
+-- A sheet that no cause refuses is accepted: what each test of the chain of causes says. No cause has a number above
+-- 16.
 use Prim.Native.Nat.{ℕ, _≤_}
 use mathlib.Core.Path.{_≡_}
 use mathlib.Core.List.{List}
@@ -27,7 +28,8 @@ unfolding linkCountOk countsOk offsetsOk
 head-is s f l n o =
     let end = endAt (linkBytes s) (kOf s) (nOf s) (qOf s) (tOf s) in
     let v = and-out (ltb 0 (kOf s)) (leb (kOf s) (formOf s .links)) l in
-    let w = and-out (ltb 0 (nOf s) && leb (nOf s) (formOf s .freqs) && leb (qOf s) mostRules) (leb (tOf s) mostPairs) n in
+    let w = and-out (ltb 0 (nOf s) && leb (nOf s) (formOf s .freqs) && leb (qOf s) mostRules)
+    (leb (tOf s) mostPairs) n in
     let x = and-out (ltb 0 (nOf s) && leb (nOf s) (formOf s .freqs)) (leb (qOf s) mostRules) (w .0) in
     let y = and-out (ltb 0 (nOf s)) (leb (nOf s) (formOf s .freqs)) (x .0) in
     let f-small = form-small (le32 s 0) in

@@ -28,7 +28,7 @@ fn link_row(p: &[u8], bytes: usize, l: usize, sum: usize) -> Row
     Row::Link { first, count }
 }
 
-// The link section, of k rows of so many bytes: each row, the sum, and last of all `wide`, whether the widths are right.
+// The link section, of k rows of so many bytes: each row, the sum, and last `wide`, whether the widths are right.
 pub fn links(p: &[u8], bytes: usize, k: usize, n: usize, wide: bool) -> Reading
     requires { ⌜ (k ≤ mostLinks) × (bytes * k ≤ length (now p)) × (4 ≤ bytes) ⌝ }
     ensures { λ r. ⌜ numberOf r ≡ (passing (linkRowsOk bytes (now (p .entry)) k n) 5 λ _. unless wide 16) ⌝ }

@@ -26,8 +26,10 @@ small-either false f g F G = G
 pub form-small : (number : ℕ) → Small (formBy number)
 unfolding formBy
 form-small number =
-    small-either (eqb number 1) _ _ (record { some = omega arith; bytes = omega arith; links = omega arith; freqs = omega arith })
-    (small-either (eqb number 2) _ _ (record { some = omega arith; bytes = omega arith; links = omega arith; freqs = omega arith })
+    small-either (eqb number 1) _ _
+    (record { some = omega arith; bytes = omega arith; links = omega arith; freqs = omega arith })
+    (small-either (eqb number 2) _ _
+    (record { some = omega arith; bytes = omega arith; links = omega arith; freqs = omega arith })
     (record { some = omega arith; bytes = omega arith; links = omega arith; freqs = omega arith }))
 
 -- form 1, whose link rows have four bytes

@@ -12,11 +12,14 @@ use Rattle.graph.proofs.start.start_link.Statement.{statement}
 use Rattle.graph.proofs.start.start_link.Tie as tie
 
 link-first-requires : tie.Need-link-first-requires
-link-first-requires c κs = let s = c .before .before in has-link (now (s .args .sheet)) (s .args .place .k) (s .args .l) (s .pre .0 .rows) (s .pre .2)
+link-first-requires c κs =
+    let s = c .before .before in
+    has-link (now (s .args .sheet)) (s .args .place .k) (s .args .l) (s .pre .0 .rows) (s .pre .2)
 
 link-count-requires : tie.Need-link-count-requires
 link-count-requires c κs =
-    let s = c .before .before .before in has-link (now (s .args .sheet)) (s .args .place .k) (s .args .l) (s .pre .0 .rows) (s .pre .2)
+    let s = c .before .before .before in
+    has-link (now (s .args .sheet)) (s .args .place .k) (s .args .l) (s .pre .0 .rows) (s .pre .2)
 
 -- the link has vertices, and they are among the n
 record Inside (c : tie.After-link-count) : Type 0 where

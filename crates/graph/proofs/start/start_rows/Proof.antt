@@ -21,8 +21,8 @@ use Rattle.graph.proofs.start.start_rows.Tie as tie
 abbrev Inv-loop : tie.InvT-loop
 Inv-loop part₀ place sheet w n k last l₀ part l =
     (l ≤ place .k) × RowsFit (place .w) (place .graph) (place .n) (length part)
-    × Rewritten (λ (u : ℕ) (S : Set). linksDiffer sheet (place .k) (place .n) u) 0 (sumTo l (linkCount sheet)) (place .w)
-    (place .graph) (place .n) part₀ part
+    × Rewritten (λ (u : ℕ) (S : Set). linksDiffer sheet (place .k) (place .n) u) 0 (sumTo l (linkCount sheet))
+    (place .w) (place .graph) (place .n) part₀ part
 
 abbrev μ-loop : tie.MeasureT-loop
 μ-loop part₀ place sheet w n k last l₀ part l = place .k - l

@@ -66,9 +66,9 @@ loop-again c =
     )
 
 -- the rows are right, and the sum decides
-summed : (c : tie.After-loop Inv-loop μ-loop) (b : Bool) → eqb (c .before .loop .sum) (c .before .before .before .args .n) ≡ b
-    → linkRowsOk (c .before .before .before .args .bytes) (now (c .before .before .before .args .p))
-    (c .before .before .before .args .k) (c .before .before .before .args .n) ≡ b
+summed : (c : tie.After-loop Inv-loop μ-loop) (b : Bool) →
+    let a = c .before .before .before .args in
+    eqb (c .before .loop .sum) (a .n) ≡ b → linkRowsOk (a .bytes) (now (a .p)) (a .k) (a .n) ≡ b
 summed c b e =
     let a = c .before .before .before .args in
     let v = c .before .loop in

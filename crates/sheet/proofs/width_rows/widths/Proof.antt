@@ -38,7 +38,10 @@ widths-spec =
     Inv-loop
     μ-loop
     loop-holds
-    (λ c κs. let a = c .before .before .before .args in let r = row-inside (a .bytes) (c .before .loop .l) (a .k) (omega arith) in search needs)
+    (λ c κs.
+    let a = c .before .before .before .args in
+    let r = row-inside (a .bytes) (c .before .loop .l) (a .k) (omega arith) in
+    search needs)
     returns
     (λ c. search needs)
     (λ c. search needs)

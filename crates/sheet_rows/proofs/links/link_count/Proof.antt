@@ -8,7 +8,9 @@ use Rattle.sheet_rows.proofs.links.link_count.Statement.{statement}
 use Rattle.sheet_rows.proofs.links.link_count.Tie as tie
 
 row-count-requires : tie.Need-row-count-requires
-row-count-requires c κs = let e = c .link-bytes .ensures .0 in simp (part-from, length-drop, e) (omega arith, omega (arith, e, c .link-bytes .ensures .1))
+row-count-requires c κs =
+    let e = c .link-bytes .ensures .0 in
+    simp (part-from, length-drop, e) (omega arith, omega (arith, e, c .link-bytes .ensures .1))
 
 returns : tie.Need-returns
 unfolding linkCount

@@ -8,7 +8,9 @@ use Rattle.sheet_rows.proofs.links.link_first.Statement.{statement}
 use Rattle.sheet_rows.proofs.links.link_first.Tie as tie
 
 row-first-requires : tie.Need-row-first-requires
-row-first-requires c κs = let e = c .link-bytes .ensures .0 in simp (part-from, length-drop, e) (omega arith, omega (arith, e, c .link-bytes .ensures .1))
+row-first-requires c κs =
+    let e = c .link-bytes .ensures .0 in
+    simp (part-from, length-drop, e) (omega arith, omega (arith, e, c .link-bytes .ensures .1))
 
 returns : tie.Need-returns
 unfolding linkFirst
