@@ -1,19 +1,25 @@
-/* Guvtemi's calls for a planner's desk: a sheet's graph as DIMACS text, and a sheet from such a text. Link with
-   target/staticlib/libdesk.a (written by `rt staticlib desk`; x86-64).
+/* Guvtemi's calls for a planner's desk: a job planned and checked with the television channels on air, a sheet's graph
+   as DIMACS text, and a sheet from such a text. Link with target/staticlib/libdesk.a (written by `rt staticlib desk`;
+   x86-64). The numbers of an answer and guvtemi_number, guvtemi_nodes and guvtemi_khz are those of guvtemi.h, which this
+   header includes; the two functions declared there are in libconsole.a.
 
-   A sheet is bytes as in docs/FORMAT.md, of form 1 or 2. The two texts are those of docs/DIMACS.md; a text is just the
-   bytes lent, with no zero at its end.
+   A sheet is bytes as in docs/FORMAT.md, of form 1 or 2. A channel list is bytes too, a channel on air each, 21 to 48,
+   strictly rising; channel c covers 470,000 + 8,000(c - 21) kHz up to, but without, 8,000 more. No bytes are no list. The
+   two texts are those of docs/DIMACS.md; a text is just the bytes lent, with no zero at its end.
 
    The caller keeps three things:
    - a pointer is null only where its length is 0;
    - each pointer has at least as many bytes as its length says;
    - what a call writes overlaps nothing else that is lent to it, and nothing else writes any of it during a call.
-   Everything else is the callee's: every byte sequence gets an answer.
+   Everything else is the callee's: every byte sequence and every number gets an answer.
 
-   The calls keep nothing between them, so several threads may call at once, each with outputs of its own. */
+   The calls keep nothing between them, so several threads may call at once, each with outputs of its own. A call of
+   guvtemi_plan_job takes up to 240 KiB of stack (docs/ASSURANCE.md). */
 
 #ifndef GUVTEMI_DESK_H
 #define GUVTEMI_DESK_H
+
+#include "guvtemi.h"
 
 #include <stddef.h>
 #include <stdint.h>
@@ -22,12 +28,20 @@
 extern "C" {
 #endif
 
-/* Causes of these calls. 1 to 8 and 16 are the sheet's refusals: README.md lists them. */
+/* Causes of these calls. 1 to 8 and 16 are the sheet's refusals, 9, 10 and 12 those of planning: README.md lists them. */
 enum {
-    GUVTEMI_WRITTEN = 0,     /* no refusal: the outputs hold the result */
-    GUVTEMI_MALFORMED = 13,  /* import: a text is malformed, or beyond 64 links or 512 frequencies */
-    GUVTEMI_BAD_EDGE = 14,   /* import: an edge inside a link, or repeated either way round */
-    GUVTEMI_NO_ROOM = 15     /* more than 8,192 pairs of kind 3, or an output shorter than what this call writes */
+    GUVTEMI_WRITTEN = 0,       /* no refusal: the outputs hold the result */
+    GUVTEMI_MALFORMED = 13,    /* import: a text is malformed, or beyond 64 links or 512 frequencies */
+    GUVTEMI_BAD_EDGE = 14,     /* import: an edge inside a link, or repeated either way round */
+    GUVTEMI_NO_ROOM = 15,      /* more than 8,192 pairs of kind 3, or an output shorter than what this call writes */
+    GUVTEMI_BAD_CHANNELS = 17  /* plan and check: a channel out of 21 to 48, or not above the one before it */
+};
+
+/* Channels of a list. */
+enum {
+    GUVTEMI_FIRST_CHANNEL = 21,
+    GUVTEMI_LAST_CHANNEL = 48,
+    GUVTEMI_MOST_CHANNELS = 28
 };
 
 /* Outputs of these sizes are long enough for every call. */
@@ -37,7 +51,25 @@ enum {
     GUVTEMI_ENOUGH_SHEET_BYTES = 65536
 };
 
-/* Writes the graph of a sheet as text.
+/* Plans a sheet with channels on air: guvtemi_plan of guvtemi.h with a list beside the sheet. A frequency that a channel
+   covers is struck: it is in no plan, and a link with no other frequency leaves no plan, in 0 nodes.
+   channels  the channels on air; with no bytes the answer, nodes and cells are those of guvtemi_plan
+   filter    0 to 7: 1 pre-filter, 2 colour sweep, 4 unit and failed vertices, added up; 7 is a good choice
+   choice    the working partition: 0 the links, 1 greedy classes, 2 the caller's classes
+   limit     the most nodes to enter, 1 to 1,000,000,000
+   classes   for choice 2 one byte a frequency of the sheet, also for a struck one; not read for choices 0 and 1
+   cells     at least four bytes a link; found fills the first cells, every other byte becomes 0, on every answer
+   Returns the nodes plus 2^32 times the answer's number: as guvtemi_plan, or 17, which comes after 10 and before 12. */
+uint64_t guvtemi_plan_job(const uint8_t *sheet, size_t sheet_len, const uint8_t *channels, size_t channels_len,
+                          uint32_t filter, uint32_t choice, uint32_t limit, const uint8_t *classes, size_t classes_len,
+                          uint8_t *cells, size_t cells_len);
+
+/* Checks cells against a sheet and the channels on air: guvtemi_check of guvtemi.h, which a struck frequency fails:
+   GUVTEMI_NO, no refusal. A refusal is as there, or 17, which comes after 10. Writes nothing. */
+uint64_t guvtemi_check_job(const uint8_t *sheet, size_t sheet_len, const uint8_t *channels, size_t channels_len,
+                           const uint8_t *cells, size_t cells_len);
+
+/* Writes the graph of a sheet as text, without any channel list.
    graph    `p edge n m`, then a line `e u v` for each edge, u < v, rising
    counts   the number of frequencies of each link, one a line
    Both are zero past what is written, and wholly zero on a refusal; both lengths are then 0.

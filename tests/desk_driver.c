@@ -1,8 +1,9 @@
 /* Calls the functions of include/guvtemi_desk.h for records on standard input and writes what came back to standard output.
 
-   A record, little-endian: call (0 export, 1 import), the lengths of its three slices (32 bits each), then their bytes; those of a
-   slice that is written are what it holds before. An answer: the number returned (64 bits), 32 bits that are 0 where everything
-   that must stay as it was did, then the bytes of each slice that is written.
+   A record, little-endian, 32 bits each: call (0 export, 1 import, 2 plan, 3 check), filter, choice, limit, the lengths of its slices,
+   four numbers, then their bytes; those of a slice that is written are what it holds before. A number that a call has no use for is 0.
+   An answer: the number returned (64 bits), 32 bits that are 0 where everything that must stay as it was did, then the bytes of each
+   slice that is written.
 
    GUARD bytes stand before and after each slice. Without them every buffer has just its length, so that a memory checker sees each
    byte read or written past it. An empty slice is null. */
@@ -17,7 +18,12 @@
 #define GUARD 0
 #endif
 
-enum { SLICES = 3 };
+enum { NUMBERS = 4, SLICES = 4 };
+
+/* The slices of each call, and the first of them that it writes. */
+static const struct {
+    int slices, written;
+} SHAPES[] = {{3, 1}, {3, 2}, {4, 3}, {3, 3}};
 
 typedef struct {
     size_t length;
@@ -64,31 +70,43 @@ static int changed(const Slice *slice, int written)
     return memcmp(slice->buffer, slice->before, GUARD) != 0 || memcmp(slice->buffer + behind, slice->before + behind, GUARD) != 0;
 }
 
-static uint64_t call(uint32_t number, const Slice *slices)
+static uint64_t call(const uint32_t *numbers, const Slice *slices)
 {
-    const Slice *a = slices, *b = slices + 1, *c = slices + 2;
-    if (number == 0)
+    const Slice *a = slices, *b = slices + 1, *c = slices + 2, *d = slices + 3;
+    switch (numbers[0]) {
+    case 0:
         return guvtemi_export(lent(a), a->length, lent(b), b->length, lent(c), c->length);
-    return guvtemi_import(lent(a), a->length, lent(b), b->length, lent(c), c->length);
+    case 1:
+        return guvtemi_import(lent(a), a->length, lent(b), b->length, lent(c), c->length);
+    case 2:
+        return guvtemi_plan_job(lent(a), a->length, lent(b), b->length, numbers[1], numbers[2], numbers[3], lent(c), c->length,
+                                lent(d), d->length);
+    default:
+        return guvtemi_check_job(lent(a), a->length, lent(b), b->length, lent(c), c->length);
+    }
 }
 
 int main(void)
 {
-    uint32_t head[1 + SLICES];
-    while (fread(head, sizeof head[0], 1 + SLICES, stdin) == 1 + SLICES) {
+    uint32_t head[NUMBERS + SLICES];
+    while (fread(head, sizeof head[0], NUMBERS + SLICES, stdin) == NUMBERS + SLICES) {
+        if (head[0] >= sizeof SHAPES / sizeof SHAPES[0]) {
+            fprintf(stderr, "desk_driver: there is no call %lu\n", (unsigned long)head[0]);
+            return 2;
+        }
         Slice slices[SLICES];
-        int first_written = head[0] == 0 ? 1 : 2;
-        for (int i = 0; i < SLICES; i++) {
-            slices[i].length = head[1 + i];
+        int count = SHAPES[head[0]].slices, first_written = SHAPES[head[0]].written;
+        for (int i = 0; i < count; i++) {
+            slices[i].length = head[NUMBERS + i];
             take(&slices[i]);
         }
-        uint64_t returned = call(head[0], slices);
+        uint64_t returned = call(head, slices);
         uint32_t other = 0;
-        for (int i = 0; i < SLICES; i++)
+        for (int i = 0; i < count; i++)
             other |= (uint32_t)changed(&slices[i], i >= first_written);
         fwrite(&returned, sizeof returned, 1, stdout);
         fwrite(&other, sizeof other, 1, stdout);
-        for (int i = 0; i < SLICES; i++) {
+        for (int i = 0; i < count; i++) {
             if (i >= first_written)
                 fwrite(slices[i].buffer + GUARD, 1, slices[i].length, stdout);
             free(slices[i].buffer), free(slices[i].before);

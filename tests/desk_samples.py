@@ -1,4 +1,5 @@
-"""Inputs for the desk library: calls of export and import on random, damaged and extreme sheets and texts."""
+"""Inputs for the desk library: calls of export and import on random, damaged and extreme sheets and texts; calls of planning
+and checking with channels on air are in air_samples.py."""
 
 import re
 from dataclasses import dataclass
@@ -7,7 +8,7 @@ import reading
 import samples
 from jobsheet.binary import LISTED, Rule, Sheet, encode
 
-EXPORT, IMPORT = 0, 1
+EXPORT, IMPORT, PLAN, CHECK = range(4)
 MOST_GRAPH_BYTES, MOST_COUNT_BYTES, ENOUGH_SHEET_BYTES = 1_235_834, 177, 65_536
 EIGHTS = [8] * 64
 LONGEST_GRAPH, LONGEST_COUNTS = [9] + [8] * 12 + [7] + [8] * 50, [10] * 49 + [1] * 14 + [8]  # counts of the longest texts
@@ -16,10 +17,11 @@ ODD_NUMBERS = ("0", "00", "01", "", "-1", "+1", "1.0", "1e1", "0x1", " 1", "1 ",
 
 @dataclass
 class DeskCall:
-    """One call of the desk library: the slices that it reads, and what those that it writes hold before."""
+    """One call of the desk library: the slices that it reads, what those that it writes hold before, and planning's filter, choice and limit."""
     function: int
     read: list
     written: list
+    setting: tuple = (0, 0, 0)
 
 
 def filled(rng, length):

@@ -1,18 +1,20 @@
-"""Tests of the desk library: export and import against the reading, and what a round trip keeps."""
+"""Tests of the desk library: every call against the reading, what a round trip keeps, channels on air."""
 
 import random
 from collections import Counter
 
+import air_samples
 import desk_samples
 import native
 import reading
 import samples
-from desk_samples import EXPORT, IMPORT, MOST_COUNT_BYTES, MOST_GRAPH_BYTES, DeskCall
+from desk_samples import CHECK, EXPORT, IMPORT, MOST_COUNT_BYTES, MOST_GRAPH_BYTES, PLAN, DeskCall
 from harness import EXAMPLES, need, test
 from jobsheet.binary import LISTED, SPACING, Rule, Sheet, encode
 from native import DESK_ARCHIVE, SANITIZE
 
 GUARDED = ["-O2", "-DGUARD=64"]
+NAMES = {EXPORT: "export", IMPORT: "import", PLAN: "plan", CHECK: "check"}
 
 
 def driver(name="desk-driver", flags=GUARDED):
@@ -21,25 +23,31 @@ def driver(name="desk-driver", flags=GUARDED):
 
 def wanted(call):
     """What the reading says of a call: the number returned, and the slices written afterwards."""
+    if call.function == CHECK:
+        return reading.check_job(*call.read), []
     room = map(len, call.written)
-    read = reading.desk_export if call.function == EXPORT else reading.desk_import
-    returned, *after = read(*call.read, *room)
+    if call.function == PLAN:
+        data, channels, classes = call.read
+        returned, *after = reading.plan_job(data, channels, *call.setting, classes, *room)
+    else:
+        returned, *after = (reading.desk_export if call.function == EXPORT else reading.desk_import)(*call.read, *room)
     return returned, after
 
 
 def cause_of(call, returned):
-    return returned >> (48 if call.function == EXPORT else 32)
+    """The cause, or the number of an answer."""
+    return returned >> {EXPORT: 48, IMPORT: 32, PLAN: 32, CHECK: 0}[call.function]
 
 
 def compare(calls, found):
-    """Holds answers to the reading; how often each cause came back, with the call's name."""
+    """Holds answers to the reading; how often each number came back, with the call's name."""
     seen = Counter()
     for call, (returned, changed, after) in zip(calls, found):
         need(not changed, f"a call changed what it must leave: {str(call)[:600]}")
         number, slices = wanted(call)
         need(returned == number and after == slices, f"returned {returned:#x}, wanted {number:#x}, outputs "
              f"{'as wanted' if after == slices else 'differ'}: {str(call)[:600]}")
-        seen["export" if call.function == EXPORT else "import", cause_of(call, returned)] += 1
+        seen[NAMES[call.function], cause_of(call, returned)] += 1
     return seen
 
 
@@ -161,6 +169,73 @@ def _(args):
     return f"{len(pairs)} of {len(sheets)} sheets imported, {len(firsts):,} runs twice"
 
 
+# ---- Channels on air
+
+def compare_named(named):
+    """Holds named calls to the number that is wanted of each, and to the reading."""
+    named = list(named)
+    calls = [call for _, _, call in named]
+    found = native.desk_answers(driver(), calls)
+    for (name, number, call), (returned, _, _) in zip(named, found):
+        need(returned == number, f"{name}: returned {returned:#x}, wanted {number:#x}: {str(call)[:400]}")
+    return compare(calls, found)
+
+
+@test("plan and check with channels against the reading: random and damaged sheets and lists")
+def _(args):
+    rng, seen = random.Random(args.seed + 16), Counter()
+    for _ in range(0, args.cases, 500):
+        calls = [air_samples.random_job_call(rng) for _ in range(500)]
+        seen += compare(calls, native.desk_answers(driver(), calls))
+    numbers = [("plan", n) for n in (*range(1, 11), 12, 16, 17, 100, 101, 102)] + [("check", n) for n in (0, 10, 16, 17, 100)]
+    missing = [number for number in numbers if not seen[number]]
+    need(not missing, f"no call gave {missing}")
+    return told(seen)
+
+
+@test("plan and check with channels: the edges of all 28 channels")
+def _(args):
+    return told(compare_named(air_samples.edge_calls(random.Random(args.seed + 17))))
+
+
+@test("plan and check with channels: 17 in its place, for every list out of range or order")
+def _(args):
+    return told(compare_named(air_samples.order_calls(random.Random(args.seed + 18))))
+
+
+@test("plan with channels: links and classes left empty, classes of struck vertices")
+def _(args):
+    seen = compare_named(air_samples.empty_calls(random.Random(args.seed + 19)))
+    job = reading.Job(encode(air_samples.CROWDED), b"\x16")
+    classes = reading.greedy(job, job.graph())
+    need({classes[v] for v in range(7)} == {0, 1, 2}, f"the greedy classes of the sheet with a link left empty: {classes}")
+    return told(seen)
+
+
+@test("plan with channels: sheets on which a slip shows, moved over a channel edge, limits around the tree's size")
+def _(args):
+    calls = list(air_samples.telling_job_calls(random.Random(args.seed + 21)))
+    return told(compare(calls, native.desk_answers(driver(), calls)))
+
+
+@test("plan and check with channels: sheets at their limits")
+def _(args):
+    calls = list(air_samples.limit_job_calls(random.Random(args.seed + 22)))
+    return told(compare(calls, native.desk_answers(driver(), calls)))
+
+
+@test("an empty list is no list: the desk's two calls answer as the console's")
+def _(args):
+    rng = random.Random(args.seed + 23)
+    console = native.build("tests/driver.c", "driver", ["-O2"])
+    calls = [samples.random_call(rng, air_samples.air_sheet(rng) if rng.random() < 0.5 else None) for _ in range(max(args.cases // 2, 200))]
+    calls += [*samples.limit_calls(), *list(samples.telling_calls())[::5]]
+    jobs = [air_samples.with_channels(rng, call, b"") for call in calls]
+    for call, (first, _, cells), (second, changed, after) in zip(calls, native.answers(console, calls), native.desk_answers(driver(), jobs)):
+        need(first == second and not changed and after in ([], [cells]), f"the console returns {first:#x}, the desk {second:#x}: {str(call)[:400]}")
+    return f"{len(calls):,} calls twice"
+
+
 # ---- Under memory checkers
 
 def checked_calls(args):
@@ -170,16 +245,18 @@ def checked_calls(args):
     calls += [call for _, _, call in desk_samples.fault_calls(rng)][::3]
     calls += [call for _, _, call in desk_samples.graph_calls(rng, desk_samples.limit_graphs())][::2]
     calls += [call for _, _, call in desk_samples.graph_calls(rng, list(desk_samples.bench_graphs(rng))[2:3])]
+    calls += [air_samples.random_job_call(rng) for _ in range(150)] + list(air_samples.limit_job_calls(rng))[::9]
+    calls += [call for _, _, call in [*air_samples.edge_calls(rng), *air_samples.order_calls(rng), *air_samples.empty_calls(rng)]][::5]
     return calls + list(desk_samples.limit_exports(rng))[::4]
 
 
-@test("export and import: no complaint of valgrind")
+@test("the desk's calls: no complaint of valgrind")
 def _(args):
     calls = checked_calls(args)
     return told(compare(calls, native.desk_answers(driver("desk-driver-valgrind", ["-g"]), calls, native.valgrind)))
 
 
-@test("export and import: no complaint of the address and behaviour sanitizers")
+@test("the desk's calls: no complaint of the address and behaviour sanitizers")
 def _(args):
     calls = checked_calls(args)
     return told(compare(calls, native.desk_answers(driver("desk-driver-sanitized", [*SANITIZE, "-DGUARD=64"]), calls)))

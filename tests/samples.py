@@ -235,13 +235,14 @@ class Call:
     cells: bytes = b""
 
 
-def classes_for(rng, sheet):
-    """A class list for choice 2: the layers renamed, or independent sets at random; now and then one that is no partition."""
+def classes_for(rng, sheet, channels=b""):
+    """A class list for choice 2: the layers renamed, or independent sets at random; now and then one that is no partition.
+    With channels a struck vertex goes with every other, so that sets are independent which are not without."""
     k = len(sheet.links)
     names = rng.sample(range(k), k)
     listed = [names[link] for link, frequencies in enumerate(sheet.links) for _ in frequencies]
     if rng.random() < 0.6 and len(listed) < 60:
-        row = reading.Sheet(encode(sheet)).graph()
+        row = reading.Job(encode(sheet), channels).graph()
         for v in rng.sample(range(len(listed)), len(listed)):
             fitting = [c for c in range(k) if not any(row[v] >> u & 1 and listed[u] == c for u in range(len(listed)))]
             listed[v] = rng.choice(fitting)
@@ -254,9 +255,9 @@ def classes_for(rng, sheet):
     return bytes(listed)
 
 
-def random_call(rng):
-    """A call on a small sheet, a wide one or a damaged one, with settings in and out of range."""
-    sheet = wide_sheet(rng) if rng.random() < 0.01 else random_sheet(rng)
+def random_call(rng, sheet=None, channels=b""):
+    """A call on a small sheet, a wide one or a damaged one, or on the sheet given, with settings in and out of range."""
+    sheet = sheet or (wide_sheet(rng) if rng.random() < 0.01 else random_sheet(rng))
     data = encode(sheet)
     if rng.random() < 0.25:
         data = damaged(rng, data)
@@ -270,7 +271,7 @@ def random_call(rng):
     limit = rng.choice((1, 2, 3, 5, 8, 20, 1000, 1000, 100_000, 1_000_000_000))
     if rng.random() < 0.03:
         limit = rng.choice((0, 1_000_000_001, 2**32 - 1))
-    classes = classes_for(rng, sheet) if choice == 2 or rng.random() < 0.2 else b""
+    classes = classes_for(rng, sheet, channels) if choice == 2 or rng.random() < 0.2 else b""
     if frequencies_of(sheet) > 60:
         limit = min(limit, 200) if limit else limit
     return Call(data, filters, choice, limit, classes, cells)

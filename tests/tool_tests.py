@@ -11,13 +11,14 @@ import xml.dom.minidom
 from collections import Counter
 from pathlib import Path
 
+import air_samples
 import desk_samples
 import native
 import reading
 import samples
 from harness import EXAMPLES, SHEET, example_answers, example_sheets, need, printed_by_program, test
 from jobsheet import answer as planner
-from jobsheet import binary, desk, picture, show, text
+from jobsheet import binary, channels, desk, picture, show, text
 from jobsheet.answer import Answer, width
 from native import DESK_ARCHIVE, ROOT, run
 
@@ -77,10 +78,10 @@ def _(_):
             need(re.search(row, table, re.MULTILINE), f"{name}: no row for link {link} in the table")
 
 
-@test("docs/TEXT.md and the pictures show the theatre and the club stage as they are")
+@test("docs/TEXT.md and the pictures show the theatre, the club stage and the town square as they are")
 def _(_):
     page = (ROOT / "docs" / "TEXT.md").read_text(encoding="utf-8")
-    for name in ("theatre", "edges"):
+    for name in ("theatre", "edges", "on-air"):
         job = EXAMPLES / f"{name}.txt"
         need(job.read_text(encoding="utf-8") in page, f"docs/TEXT.md does not hold examples/{name}.txt")
         need(run([SHEET, "plan", job]).stdout.decode() in page, f"docs/TEXT.md does not hold the plan of {name}")
@@ -88,7 +89,7 @@ def _(_):
         need(drawn == (EXAMPLES / f"{name}.svg").read_bytes(), f"tools/sheet picture draws another examples/{name}.svg")
 
 
-@test("docs/FORMAT.md shows its two sheets byte by byte")
+@test("docs/FORMAT.md shows its two sheets byte by byte, and the edges of channels")
 def _(_):
     page = (ROOT / "docs" / "FORMAT.md").read_text(encoding="utf-8")
     lists = [[500_000, 500_400], [500_000, 500_300]]
@@ -102,6 +103,11 @@ def _(_):
             data += bytes.fromhex(digits)
         need(data == binary.encode(sheet), f"form {sheet.form()}: other bytes")
         need(printed_by_program(data) == "found 3\n0 500400\n1 500000\n", f"form {sheet.form()}: {printed_by_program(data)!r}")
+        need(planner.plan(sheet, [24]) == Answer("none", 0, []), f"form {sheet.form()}: a plan with channel 24 on air")
+    rows = re.findall(r"^\| (\d\d) \| (\d{3}),(\d{3}) \| (\d{3}),(\d{3}) \|$", page, re.MULTILINE)
+    for channel, low, low_khz, high, high_khz in rows:
+        need(channels.edges(int(channel)) == (int(low + low_khz), int(high + high_khz) + 1), f"channel {channel}: {low},{low_khz} to {high},{high_khz}")
+    need(len(rows) == 4, f"{len(rows)} channels with their edges")
 
 
 @test("the club stage needs its widths: the plan between centres breaks the spacing between edges")
@@ -182,6 +188,8 @@ def _(_):
         cases += [["from-dimacs", *two] for path in inputs[:-1] for two in ((path, files["text"]), (files["text"], path), (path,), ("-", "-"))]
         cases += [[], ["unknown"], ["make"], ["make", files["text"], "-o", Path(folder) / "deep"], ["picture", files["text"], "-o", Path(folder) / "no" / "where"],
                   ["dimacs", files["text"], "-o", Path(folder) / "no" / "where"], ["dimacs", files["text"], "-o", "-"], ["dimacs", "-"]]
+        cases += [[name, files["text"], "--air", given] for name in ("plan", "picture", "why") for given in ("20", "x", "41-38", "256", "-1", "38,38")]
+        cases += [["plan", files["text"], "--air"], ["plan", files["text"], "--air", ""], ["make", files["text"], "--air", "38"]]
         for case in cases:
             done = run([SHEET, *case], cwd=folder, input=b"")
             said = (done.stdout + done.stderr).decode(errors="replace")
@@ -408,9 +416,16 @@ def _(args):
         wanted = reading.console_check(binary.encode(sheet), struct.pack(f"<{len(cells)}I", *cells)) == reading.YES
         need(planner.keeps_rules(sheet, cells) == wanted, f"{sheet}, {cells}: wanted {wanted}")
         seen[sheet.form(), wanted] += 1
-    need(len(seen) == 4, f"{seen}")
+    need(len(seen) == 4, f"{seen}")  # both forms, both answers
     for allowed, sheet in samples.edge_sheets():
         need(planner.keeps_rules(sheet, [listed[0] for listed in sheet.links]) == allowed, f"{sheet}: wanted {allowed}")
+    for _ in range(args.cases // 2):
+        sheet = air_samples.air_sheet(rng)
+        cells, listed = samples.check_cells(rng, sheet), air_samples.good_channels(rng, sheet)
+        said = [reading.check_job(binary.encode(sheet), on_air, struct.pack(f"<{len(cells)}I", *cells)) == reading.YES for on_air in (listed, b"")]
+        need(planner.keeps_rules(sheet, cells, listed) == said[0], f"{sheet}, {cells}, channels {list(listed)}: wanted {said[0]}")
+        seen["struck"] += said == [False, True]
+    need(seen["struck"], "no plan failed for its struck frequencies alone")
     return f"{seen[1, True] + seen[2, True]:,} of {args.cases:,} plans keep the rules"
 
 
@@ -496,6 +511,198 @@ def drawn_bars(svg):
     return found
 
 
+# ---- Television channels on air
+
+AIR_HEAD = "job x\nlink A 470.0 478.0 606.5\nlink B 477.999 486.0 607.5\n"
+
+
+@test("air: channels and stretches in any order, on several lines, and every fault has its line")
+def _(_):
+    for lines, wanted in (("", []), ("air 38", [38]), ("air 48 21", [21, 48]), ("air 38-41 21", [21, 38, 39, 40, 41]), ("air 21,38-39", [21, 38, 39]),
+                          ("air 30\napart 400 all\nair 25-26 # the hill", [25, 26, 30]), ("air 21-48", list(range(21, 49))), ("air 22-22", [22])):
+        job = text.parse(AIR_HEAD + lines)
+        need(job.channels == wanted and text.parse(AIR_HEAD + "\n".join(line for line in lines.split("\n") if "air" not in line)).sheet == job.sheet,
+             f"{lines}: {job.channels}")
+        need(channels.from_words(channels.words_of(channels.written(wanted))) == wanted if wanted else True, f"{lines}: {channels.written(wanted)}")
+    faults = {"air": (4, "expected channels such as 21,38-41, found none after air"), "air 20": (4, "expected channels from 21 to 48, found 20"),
+              "air 49": (4, "expected channels from 21 to 48, found 49"), "air 38\nair 47-50": (5, "expected channels from 21 to 48, found 47-50"),
+              "air 41-38": (4, "expected a stretch that rises, such as 38-41, found 41-38"), "air 606.5": (4, "such as 38-41, found 606.5"),
+              "air A": (4, "expected a channel such as 38 or a stretch such as 38-41, found A"), "air -38": (4, "found -38"), "air 38-": (4, "found 38-"),
+              "air 38 38": (4, "expected each channel once, found 38 twice"), "air 30 25-31": (4, "found 30 twice"),
+              "air 38\nair 37-39": (5, "expected each channel once, found 38 a second time, beside line 4"), "air 38\nAir 39": (5, "did you mean air?")}
+    for lines, (line, words) in faults.items():
+        try:
+            text.parse(AIR_HEAD + lines)
+            need(False, f"{lines}: read")
+        except text.TextError as error:
+            need([number for number, _ in error.faults] == [line] and words in error.faults[0][1], f"{lines}: {error}")
+
+
+@test("the tools' channels have the edges of the reading's")
+def _(_):
+    for khz in sorted({edge + step for edge in (*air_samples.LOWS, 694_000) for step in (-1, 0, 1)}):
+        over = [channel for channel in air_samples.ALL if reading.covers(channel, khz)]
+        need(channels.taker(air_samples.ALL, khz) == (over[0] if over else None), f"{khz} kHz: {channels.taker(air_samples.ALL, khz)}, wanted {over}")
+
+
+@test("tools/sheet plan with channels on air: the desk's plan, what they take, and links left empty")
+def _(args):
+    rng, seen = random.Random(args.seed + 24), Counter()
+    for _ in range(max(args.cases // 30, 60)):
+        sheet = air_samples.air_sheet(rng)
+        on_air = list(air_samples.good_channels(rng, sheet))
+        answer = planner.plan(sheet, on_air)
+        wanted = reading.planned(reading.Job(binary.encode(sheet), on_air), 7, 0, 1_000_000, b"")
+        need((answer.verdict, answer.number, answer.khz) == (planner.VERDICTS[wanted[0]], *wanted[1:]), f"{answer}, wanted {wanted}: {sheet}, {on_air}")
+        names = [f"L{link}" for link in range(len(sheet.links))]
+        empty = [name for name, listed in zip(names, sheet.links) if all(any(reading.covers(c, khz) for c in on_air) for khz in listed)]
+        lines = channels.left_empty(sheet, names, on_air)
+        need([line.split()[0] for line in lines] == empty and (not empty or (answer.verdict, answer.number) == ("none", 0)), f"{lines}: {sheet}, {on_air}")
+        seen[answer.verdict, bool(empty)] += 1
+    need(seen["found", False] and seen["none", True], f"{dict(seen)}")
+    for lines, given, status, told in (
+            ("air 21", [], 0, "x: plan found in 3 nodes\non air: channel 21; it takes 2 of 6 frequencies, from 2 of 2 links\n\nlink "),
+            ("", ["--air", "21"], 0, "on air: channel 21; it takes 2 of 6 frequencies, from 2 of 2 links\n"),
+            ("air 21", ["--air", "22,21"], 0, "on air: channels 21-22; they take 3 of 6 frequencies, from 2 of 2 links\n"),
+            ("", ["--air", "48"], 0, "on air: channel 48; it takes no frequency of this job\n"),
+            ("air 38 21-22", [], 1, "x: no plan exists (0 nodes): no choice of one frequency per link keeps every rule\n"
+             "on air: channels 21-22, 38; they take 5 of 6 frequencies, from 2 of 2 links\n"
+             "A is left without a frequency: channels 21-22, 38 take all 3 of its frequencies.\n"
+             "Give that link a frequency that no channel on air takes, or plan without it.\n"),
+            ("link C 600.0\nair 37 38 21-23", [], 1, "C is left without a frequency: channel 37 takes its one frequency.\n"
+             "Give these links a frequency that no channel on air takes, or plan without them.\n"),
+            ("air 21-23\napart 2.0 A B", [], 1, "Give a link more frequencies that no channel on air takes, loosen a rule")):
+        done = run([SHEET, "plan", "-", *given], input=(AIR_HEAD + lines).encode())
+        said = done.stdout.decode()
+        need(done.returncode == status and told in said, f"{given}, {lines!r}: status {done.returncode}, {said}{done.stderr.decode()}")
+    said = run([SHEET, "plan", EXAMPLES / "on-air.txt", "--air", "32,34"]).stdout.decode().splitlines()[2:]
+    need("\n".join(f"    {line}" for line in said) in (ROOT / "docs" / "TEXT.md").read_text(encoding="utf-8"), f"docs/TEXT.md does not hold {said}")
+    need("on air" not in run([SHEET, "plan", EXAMPLES / "theatre.txt"]).stdout.decode(), "words on channels where there are none")
+
+
+@test("channels are no part of a sheet or a graph: make and dimacs say so, and --air plans the sheet as the text")
+def _(_):
+    with tempfile.TemporaryDirectory() as folder:
+        for text_lines, noted in (("air 21 38-39\n", True), ("", False)):
+            (Path(folder) / "a.txt").write_text(AIR_HEAD + text_lines)
+            made = run([SHEET, "make", "a.txt"], cwd=folder)
+            data = (Path(folder) / "a.sheet").read_bytes()
+            need(data == binary.encode(text.parse(AIR_HEAD).sheet), "make: another sheet")
+            note = "note: a.txt: channels 21, 38-39 on air are not part of the sheet; plan it with --air 21,38-39\n"
+            need(made.stderr.decode() == (note if noted else ""), f"make: {made.stderr.decode()}")
+            done = run([SHEET, "dimacs", "a.txt"], cwd=folder)
+            need(("on air are not part of the graph" in done.stderr.decode()) == noted, f"dimacs: {done.stderr.decode()}")
+            need((Path(folder) / "a.col").read_bytes() == reading.texts_of(reading.Sheet(data))[0], "dimacs: another graph")
+    air = ["--air", channels.written(text.parse((EXAMPLES / "on-air.txt").read_text(encoding="utf-8")).channels)]
+    of_text, of_sheet = (run([SHEET, "plan", EXAMPLES / name, *more]).stdout.decode() for name, more in (("on-air.txt", []), ("on-air.sheet", air)))
+    need(of_text.splitlines()[1] == of_sheet.splitlines()[1] and re.findall(r" \d+\.\d{3} ", of_text) == re.findall(r" \d+\.\d{3} ", of_sheet),
+         "the sheet with --air has another plan than the text")
+    need("\nair " not in run([SHEET, "show", EXAMPLES / "on-air.sheet"]).stdout.decode(), "show knows channels")
+
+
+@test("the town square needs its channels: the plan without them uses frequencies that they take")
+def _(_):
+    job = text.parse((EXAMPLES / "on-air.txt").read_text(encoding="utf-8"))
+    without = [int(line.split()[1]) for line in printed_by_program((EXAMPLES / "on-air.sheet").read_bytes()).splitlines()[1:]]
+    need(planner.keeps_rules(job.sheet, without) and not planner.keeps_rules(job.sheet, without, job.channels), f"{without}")
+
+
+@test("--air: a wrong channel gets a sentence")
+def _(_):
+    for given, words in (("20", "expected channels from 21 to 48, found 20"), ("38,49", "found 49"), ("41-38", "such as 38-41, found 41-38"),
+                         ("38,38", "expected each channel once, found 38 twice"), ("x", "found x"), (",", "found none")):
+        for name in ("plan", "picture"):
+            done = run([SHEET, name, EXAMPLES / "on-air.txt", "--air", given])
+            said = done.stderr.decode()
+            need(done.returncode == 2 and words in said and said.startswith(f"tools/sheet: --air {given}: ") and not done.stdout, f"{name} {given}: {said}")
+
+
+@test("why: cause 17 with its entry, after the causes of the sheet; the desk's check says the same")
+def _(args):
+    good = EXAMPLES / "on-air.sheet"
+    for given, entry, there, allowed in (("20", 0, 20, "21 to 48"), ("21,49", 1, 49, "21 to 48"), ("38-41,40", 4, 40, "42 to 48: above 41, the entry before it"),
+                                         ("38,38", 1, 38, "39 to 48: above 38, the entry before it"), ("0", 0, 0, "21 to 48"), ("21,255,20", 1, 255, "21 to 48"),
+                                         ("48,47", 1, 47, "nothing more: 48, the entry before it, is the last channel"), ("48 48", 1, 48, "nothing more: 48")):
+        done = run([SHEET, "why", good, "--air", given])
+        need(done.returncode == 1 and done.stdout.decode().startswith(
+            f"refused 17: the channel list is out of range or order\n  where    channel list, entry {entry}, byte {entry}\n  there    {there}\n"
+            f"  allowed  {allowed}"), f"{given}: {done.stdout.decode()}")
+    for given in ("24,27-28", "21-48"):
+        said = run([SHEET, "why", good, "--air", given]).stdout.decode()
+        need(said.startswith("accepted: 11 links") and f"on air: channels {given.replace(',', ', ')}; they take " in said, f"{given}: {said}")
+    for sheet in sorted((EXAMPLES / "refused").glob("*.sheet")):
+        said = run([SHEET, "why", sheet, "--air", "20"]).stdout.decode()
+        need(said.startswith(f"refused {sheet.stem}: "), f"{sheet.name} with channel 20: {said}")
+    rng, data = random.Random(args.seed + 25), good.read_bytes()
+    lists = [*air_samples.BAD_LISTS.values(), b"", air_samples.ALL]
+    lists += [air_samples.any_channels(rng, binary.decode(data)) for _ in range(args.cases)]
+    calls = [air_samples.check_call(data, listed, bytes(44)) for listed in lists]
+    program = native.build("tests/desk_driver.c", "desk-driver", ["-O2", "-DGUARD=64"], DESK_ARCHIVE)
+    refused = 0
+    for listed, (returned, _, _) in zip(lists, native.desk_answers(program, calls)):
+        fault = channels.fault_of(listed)
+        need((17 if fault else 0) == returned, f"why says {fault}, the desk {returned}, for {list(listed)[:60]}")
+        need(fault is None or (listed[fault.offset] == int(fault.there) and not channels.fault_of(listed[:fault.offset])), f"{fault}: {list(listed)[:60]}")
+        refused += fault is not None
+    return f"{refused:,} of {len(lists):,} lists refused"
+
+
+@test("a plan on a struck frequency is not handed out, nor one of a library that does not know channels")
+def _(_):
+    sheet, kept = text.parse(AIR_HEAD).sheet, (desk.ready, desk.plan)
+    try:
+        desk.ready = lambda: None
+        for plan, good in (([606_500, 486_000], True), ([470_000, 486_000], False), ([606_500, 477_999], False), ([606_501, 486_000], False)):
+            desk.plan = lambda *_, plan=plan: (100, 3, plan)
+            try:
+                need(planner.plan(sheet, [21]).khz == plan and good, f"{plan} was handed out")
+            except planner.NoAnswer as error:
+                need(not good and "do not tune by it" in str(error), f"{plan}: {error}")
+    finally:
+        desk.ready, desk.plan = kept
+    with tempfile.TemporaryDirectory() as folder:
+        root = Path(folder) / "root"
+        shutil.copytree(ROOT / "tools", root / "tools", ignore=shutil.ignore_patterns("__pycache__"))
+        (root / "target" / "staticlib").mkdir(parents=True)
+        source, object_file = Path(folder) / "old.c", Path(folder) / "old.o"
+        source.write_text("unsigned long long guvtemi_export(void) { return 0; }\n")
+        run(["gcc", "-fPIC", "-c", "-o", object_file, source])
+        run(["ar", "rcs", root / "target" / "staticlib" / "libdesk.a", object_file])
+        done = run([root / "tools" / "sheet", "plan", EXAMPLES / "on-air.txt"])
+        need(done.returncode == 2 and "is from before guvtemi_plan_job" in done.stderr.decode(), f"an older library: {done.stderr.decode()[:300]}")
+
+
+@test("pictures: channels on air are shaded where they are, and the frequencies that they take crossed out")
+def _(args):
+    rng = random.Random(args.seed + 26)
+    for _ in range(max(args.cases // 60, 20)):
+        sheet = samples.wide_sheet(rng) if rng.random() < 0.3 else air_samples.air_sheet(rng)
+        on_air = list(air_samples.good_channels(rng, sheet))
+        names = [f"link{link}" for link in range(len(sheet.links))]
+        answer = Answer("found", 1, [rng.choice(listed) for listed in sheet.links]) if rng.random() < 0.7 else Answer("none", 0, [])
+        drawn = picture.svg(text.Job("job", names, sheet, [], on_air), answer)
+        labels_apart(drawn)
+        taken = [khz for listed in sheet.links for khz in listed if any(reading.covers(c, khz) for c in on_air)]
+        need(drawn.count('class="struck"') == len(taken) and drawn.count('class="candidate"') == sheet.frequencies() - len(taken), f"{on_air}: {sheet}")
+        places = [(float(node.getAttribute("x")), float(node.getAttribute("width"))) for node in of_class(drawn, "rect", "air")]
+        need(all(x >= 0 and x + wide <= 1200 and wide > 0 for x, wide in places), f"{places}")
+        crosses = {float(node.getAttribute("points").split()[2].split(",")[0]) for node in of_class(drawn, "polyline", "struck")}
+        strokes = {float(node.getAttribute("points").split()[0].split(",")[0]) for node in of_class(drawn, "polyline", "candidate")}
+        need(all(any(x - 0.11 <= cross <= x + wide + 0.11 for x, wide in places) for cross in crosses), f"a cross outside the shade: {on_air}, {sheet}")
+        need(all(not any(x + 0.11 < stroke < x + wide - 0.11 for x, wide in places) for stroke in strokes), f"a stroke in the shade: {on_air}, {sheet}")
+        need(("on air" in drawn) == bool(on_air), "words on channels")
+    drawn = picture.svg(text.parse((EXAMPLES / "on-air.txt").read_text(encoding="utf-8")), Answer("none", 0, []))
+    strip = [node.firstChild.firstChild.data for node in of_class(drawn, "rect", "air-strip")]
+    need(strip[:2] == ["channel 24 on air, 494.000 to 502.000 MHz", "channel 27 on air, 518.000 to 526.000 MHz"] and len(strip) == 5, f"{strip}")
+    numbers = [node.firstChild.data for node in of_class(drawn, "text", "air-text")]
+    need(numbers[1:] == ["24", "27", "28", "33", "43"], f"{numbers}")
+
+
+def of_class(svg, tag, kind):
+    """The shapes of a picture of this kind."""
+    return [node for node in xml.dom.minidom.parseString(svg).getElementsByTagName(tag) if node.getAttribute("class") == kind]
+
+
 @test("why gives the planner's number for damaged sheets")
 def _(args):
     rng = random.Random(args.seed + 3)
@@ -515,26 +722,28 @@ def _(args):
         said, told = run([SHEET, "why", "-"], input=data).stdout.decode(), printed_by_program(data)
         need(told.startswith("refused") == said.startswith("refused"), f"why says {said[:30]!r}, the program {told[:30]!r}")
         need(not told.startswith("refused") or said.startswith(told.strip() + ":"), f"why says {said[:30]!r}, the program {told[:30]!r}")
-    need(all(seen[number] for number in binary.CAUSES), f"not every number arose: {dict(seen)}")
-    return f"{len(inputs):,} sheets; " + ", ".join(f"{number}: {seen[number]}" for number in binary.CAUSES)
+    of_sheets = [number for number in binary.CAUSES if number != 17]
+    need(all(seen[number] for number in of_sheets), f"not every number arose: {dict(seen)}")
+    return f"{len(inputs):,} sheets; " + ", ".join(f"{number}: {seen[number]}" for number in of_sheets)
 
 
 @test("damaged texts are read or get a line number")
 def _(args):
     rng = random.Random(args.seed + 4)
-    whole = [(EXAMPLES / name).read_text(encoding="utf-8") for name in ("theatre.txt", "edges.txt")]
+    whole = [(EXAMPLES / name).read_text(encoding="utf-8") for name in ("theatre.txt", "edges.txt", "on-air.txt")]
     read = 0
     for number in range(args.cases):
-        lines = whole[number % 2].splitlines()
+        lines = whole[number % 3].splitlines()
         for _ in range(rng.choice((1, 1, 3))):
             at = rng.randrange(len(lines))
             words = lines[at].split(" ") or [""]
-            words[rng.randrange(len(words))] = rng.choice(("", '"', "#", "all", "link", "width", "free", "differ", "0", "1e9", "500,1", "500.4MHz", "kHz",
-                                                           "Romeo", "-1", "9" * 30, "ä/ö", "1/2"))
+            words[rng.randrange(len(words))] = rng.choice(("", '"', "#", "all", "link", "width", "free", "differ", "air", "0", "1e9", "500,1", "500.4MHz",
+                                                           "kHz", "Romeo", "-1", "9" * 30, "ä/ö", "1/2", "38", "20-22", "21-20"))
             lines[at] = " ".join(words)
         try:
-            data = binary.encode(text.parse("\n".join(lines)).sheet)
-            need(reading.refusal(data) == 0, "a text gave a sheet that is refused")
+            job = text.parse("\n".join(lines))
+            need(reading.refusal(binary.encode(job.sheet)) == 0, "a text gave a sheet that is refused")
+            need(not reading.channels_wrong(job.channels), "a text gave a channel list that is refused")
             read += 1
         except text.TextError as error:
             need(error.faults and all(line >= 1 and sentence.startswith("expected") for line, sentence in error.faults), f"{error}")
@@ -549,7 +758,8 @@ def _(args):
         names = [f'A & <b> "{link}"' if rng.random() < 0.1 else f"link{link}" * rng.choice((1, 1, 6)) for link in range(len(sheet.links))]
         plan = [rng.choice(listed) for listed in sheet.links]
         answer = Answer("found", 1, plan) if rng.random() < 0.8 else Answer("none", 1, [])
-        labels_apart(picture.svg(text.Job("job & <name>", names, sheet, []), answer))
+        on_air = air_samples.good_channels(rng, sheet) if rng.random() < 0.5 else b""
+        labels_apart(picture.svg(text.Job("job & <name>", names, sheet, [], list(on_air)), answer))
 
 
 def labels_apart(svg):

@@ -1,22 +1,24 @@
-"""The planner's answer to a sheet: running the proved program, and its plan as a table."""
+"""The planner's answer to a job: running the proved program, or the desk's planning call, and its plan as a table."""
 
 import itertools
 import subprocess
 import sys
+import threading
 import unicodedata
 from dataclasses import dataclass
 from pathlib import Path
 
+from . import channels as air
+from . import desk
 from .binary import EXACT, SPACING, encode
+from .desk import NoAnswer
 from .text import mhz
 
 ROOT = Path(__file__).resolve().parents[2]
 PROGRAM = ROOT / "target" / "bin" / "plan"
 PATIENCE = 3  # seconds before a word that planning goes on
-
-
-class NoAnswer(Exception):
-    """The planner could not be asked, or what it said cannot be used; the text says what to do."""
+SETTING = (7, 0, 1_000_000)  # filter, choice and limit, as the program has them
+VERDICTS = {100: "found", 101: "none", 102: "stopped"}
 
 
 @dataclass
@@ -83,7 +85,7 @@ def ask(data):
         try:
             printed, _ = process.communicate(data, timeout=PATIENCE)
         except subprocess.TimeoutExpired:
-            print("planning, up to 1,000,000 nodes: a tight job can take minutes (Ctrl-C gives up) ..", file=sys.stderr, flush=True)
+            _go_on()
             printed, _ = process.communicate()
     answer = _read(printed.decode("ascii", "replace"))
     if answer is None:
@@ -91,6 +93,36 @@ def ask(data):
         raise NoAnswer(f"the planner {PROGRAM} {ended} and printed {printed[:60]!r}, which is no answer. "
                        "Build it again with 'rt check plan'.")
     return answer
+
+
+def _go_on():
+    print("planning, up to 1,000,000 nodes: a tight job can take minutes (Ctrl-C gives up) ..", file=sys.stderr, flush=True)
+
+
+def ask_desk(data, links, channels):
+    """What the desk's planning call answers to the bytes of a sheet with so many links, with these channels on air."""
+    told = []
+    desk.ready()
+
+    def call():
+        try:
+            told.append(desk.plan(data, bytes(channels), links, SETTING))
+        except NoAnswer as error:
+            told.append(error)
+
+    # Beside this thread, so that Ctrl-C is heard.
+    thread = threading.Thread(target=call, daemon=True)
+    thread.start()
+    thread.join(PATIENCE)
+    if thread.is_alive():
+        _go_on()
+        thread.join()
+    if not told or isinstance(told[0], NoAnswer):
+        raise told[0] if told else NoAnswer("the desk's planning call gave no answer. Build it again with 'rt staticlib desk'.")
+    number, nodes, khz = told[0]
+    if number not in VERDICTS:
+        return Answer("refused", number, [])
+    return Answer(VERDICTS[number], nodes, khz if number == 100 else [])
 
 
 def _read(printed):
@@ -109,15 +141,16 @@ def _read(printed):
     return Answer(words[0], int(words[1]), khz)
 
 
-def plan(sheet):
-    """The program's answer to an accepted sheet. A plan is held to the rules once more before anybody tunes by it."""
-    answer = ask(encode(sheet))
+def plan(sheet, channels=()):
+    """The answer to an accepted sheet with these channels on air: the desk's, or the program's where there are none. A plan is held to the
+    rules once more before anybody tunes by it."""
+    answer = ask_desk(encode(sheet), len(sheet.links), channels) if channels else ask(encode(sheet))
     if answer.verdict == "refused":
         raise NoAnswer(f"the planner refuses this sheet with number {answer.number}, and this command accepts it: "
                        "one of the two is wrong. Please report it with the sheet.")
-    if answer.verdict == "found" and not keeps_rules(sheet, answer.khz):
+    if answer.verdict == "found" and not keeps_rules(sheet, answer.khz, channels):
         raise NoAnswer("the planner's plan does not keep the rules of this sheet: do not tune by it. "
-                       "Build the planner again with 'rt check plan'.")
+                       f"Build the planner again with '{'rt staticlib desk' if channels else 'rt check plan'}'.")
     return answer
 
 
@@ -128,9 +161,11 @@ def spacings(sheet, khz):
             for a, b in itertools.combinations(range(len(khz)), 2)]
 
 
-def keeps_rules(sheet, khz):
-    """Whether each frequency is in its link's list, every rule allows its two, and links without a rule differ."""
+def keeps_rules(sheet, khz, channels=()):
+    """Whether each frequency is in its link's list and in no channel on air, every rule allows its two, and links without a rule differ."""
     if len(khz) != len(sheet.links) or any(f not in listed for f, listed in zip(khz, sheet.links)):
+        return False
+    if any(air.taker(channels, f) is not None for f in khz):
         return False
     position = [listed.index(f) for f, listed in zip(khz, sheet.links)]
     for spacing in spacings(sheet, khz):
@@ -162,10 +197,15 @@ def said(answer):
     return f"stopped at {nodes} without an answer: there may be a plan or none"
 
 
-def advice(answer):
-    """What to do without a plan."""
+def advice(job, answer):
+    """What to do without a plan; links that the channels on air leave empty come first."""
+    empty = air.left_empty(job.sheet, job.names, job.channels)
+    if empty:
+        them = "that link" if len(empty) == 1 else "these links"
+        return "\n".join([*empty, f"Give {them} a frequency that no channel on air takes, or plan without {'it' if len(empty) == 1 else 'them'}."])
     parts = ", or plan parts of the job one by one" if answer.verdict == "stopped" else ""
-    return f"Give a link more frequencies, loosen a rule{parts or ', or free two links that may share a carrier'}."
+    clear = " that no channel on air takes" if job.channels else ""
+    return f"Give a link more frequencies{clear}, loosen a rule{parts or ', or free two links that may share a carrier'}."
 
 
 def width(text):

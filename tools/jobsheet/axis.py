@@ -27,6 +27,11 @@ class Axis:
                 return start + (khz - low) * self.scale
         raise ValueError(khz)
 
+    def seen(self, low, high):
+        """Where a stretch of the band is drawn: (left, right) of its share of each part."""
+        shares = [(max(low, begin), min(high, end), begin, start) for (begin, end), start in zip(self.parts, self.starts)]
+        return [(start + (first - begin) * self.scale, start + (last - begin) * self.scale) for first, last, begin, start in shares if first < last]
+
     def runs(self):
         """Where the axis is drawn: (left, right) of each part."""
         return [(start, start + (high - low) * self.scale) for (low, high), start in zip(self.parts, self.starts)]

@@ -19,6 +19,7 @@ CAUSES = {  # in the order tested
     6: "a frequency out of range, or not rising",
     7: "a rule row, or the sum of the pairs",
     8: "a pair row",
+    17: "the channel list is out of range or order",  # not of a sheet: it is lent beside one
 }
 
 
@@ -68,7 +69,7 @@ class Sheet:
 
 @dataclass
 class Fault:
-    """Why a sheet is refused: the number, the field or row, its byte offset, what is there and what is allowed."""
+    """Why a sheet or a channel list is refused: the number, the field or row, its byte offset, what is there and what is allowed."""
     number: int
     place: str
     offset: int

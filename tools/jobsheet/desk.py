@@ -1,19 +1,20 @@
-"""A sheet's graph as DIMACS text and back (docs/DIMACS.md), through the proved calls of include/guvtemi_desk.h."""
+"""The proved calls of include/guvtemi_desk.h: planning with channels on air, a sheet's graph as DIMACS text (docs/DIMACS.md) and back."""
 
 import ctypes
 import os
 import re
 import shutil
+import struct
 import subprocess
 import sys
 from pathlib import Path
-
-from .answer import NoAnswer
 
 ROOT = Path(__file__).resolve().parents[2]
 ARCHIVE = ROOT / "target" / "staticlib" / "libdesk.a"
 SHARED = ROOT / "target" / "desk" / "libdesk.so"
 MOST_GRAPH_BYTES, MOST_COUNT_BYTES, ENOUGH_SHEET_BYTES = 1_235_834, 177, 65_536
+
+SLICE = [ctypes.c_void_p, ctypes.c_size_t]
 
 CAUSES = {
     13: "a text is malformed, or beyond 64 links or 512 frequencies",
@@ -31,26 +32,45 @@ NUMBER = rb"(0|[1-9][0-9]*)"
 COUNT_LINE, HEAD_LINE, EDGE_LINE = (re.compile(form.replace(b"N", NUMBER)) for form in (b"N", b"p edge N N", b"e N N"))
 
 
+class NoAnswer(Exception):
+    """The proved code could not be asked, or what it said cannot be used; the text says what to do."""
+
+
+def ready():
+    """Makes the library, where it is missing."""
+    _library()
+
+
+def plan(sheet, channels, links, setting):
+    """(number, nodes, the kHz of so many links) of the bytes of a sheet and of a channel list, under a setting (filter, choice, limit)."""
+    cells = ctypes.create_string_buffer(4 * links)
+    function = _function("guvtemi_plan_job", SLICE * 2 + [ctypes.c_uint32] * 3 + SLICE * 2)
+    returned = function(sheet, len(sheet), channels, len(channels), *setting, None, 0, cells, len(cells))
+    return returned >> 32, returned % 2**32, list(struct.unpack(f"<{links}I", cells.raw))
+
+
 def export(sheet):
     """(cause, graph text, count text) of the bytes of a sheet."""
     graph, counts = ctypes.create_string_buffer(MOST_GRAPH_BYTES), ctypes.create_string_buffer(MOST_COUNT_BYTES)
-    returned = _function("guvtemi_export")(sheet, len(sheet), graph, len(graph), counts, len(counts))
+    returned = _function("guvtemi_export", SLICE * 3)(sheet, len(sheet), graph, len(graph), counts, len(counts))
     return returned >> 48, graph.raw[:returned % 2**32], counts.raw[:(returned >> 32) % 2**16]
 
 
 def import_texts(graph, counts):
     """(cause, the bytes of a sheet) of two texts."""
     sheet = ctypes.create_string_buffer(ENOUGH_SHEET_BYTES)
-    returned = _function("guvtemi_import")(graph, len(graph), counts, len(counts), sheet, len(sheet))
+    returned = _function("guvtemi_import", SLICE * 3)(graph, len(graph), counts, len(counts), sheet, len(sheet))
     return returned >> 32, sheet.raw[:returned % 2**32]
 
 
 # ---- The shared object
 
-def _function(name):
-    function = getattr(_library(), name)
+def _function(name, arguments):
+    function = getattr(_library(), name, None)
+    if function is None:
+        raise NoAnswer(f"the desk library {ARCHIVE} is from before {name}. Build it again with 'rt staticlib desk' in {ROOT}.")
     function.restype = ctypes.c_uint64
-    function.argtypes = [ctypes.c_void_p, ctypes.c_size_t] * 3
+    function.argtypes = arguments
     return function
 
 

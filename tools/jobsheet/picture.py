@@ -1,7 +1,9 @@
-"""The band as an SVG: carriers on a frequency axis, in form 2 as wide as they are, and below them a lane per link with its candidate frequencies."""
+"""The band as an SVG: carriers on a frequency axis, in form 2 as wide as they are, and below them a lane per link with its candidate frequencies;
+the television channels on air are shaded, and the frequencies that they take crossed out."""
 
 from xml.sax.saxutils import escape
 
+from . import channels as air
 from .answer import said, tightest, width
 from .axis import Axis, spread
 from .text import mhz
@@ -36,6 +38,13 @@ WIDTH_STYLE = """.centre { stroke-width: 1 }
 .worst-band { fill: #c0281c; fill-opacity: 0.5 }
 """
 
+# More of it with channels on air.
+AIR_STYLE = """.air { fill: #fbf0d9 }
+.air-strip { fill: #f0d195; stroke: #fffaf0 }
+.air-text { fill: #7a5200 }
+.struck { stroke: #c08a2b; stroke-width: 1.2; fill: none }
+"""
+
 
 def svg(job, answer):
     """The picture of a job and the planner's answer; without a plan it shows the candidates alone."""
@@ -53,7 +62,8 @@ class _Picture:
         left = 24 + CHARACTER * max(10, 4 + max(width(name) for name in self.names))
         self.edges = self.sheet.form() == 2
         self.axis = Axis([self._stretch(link, khz) for link, listed in enumerate(self.sheet.links) for khz in listed], left, WIDE - RIGHT)
-        self.shapes = []
+        self.channels = job.channels
+        self.behind, self.shapes = [], []
 
     def _stretch(self, link, khz):
         """The edges in kHz of a link's carrier on this frequency."""
@@ -64,14 +74,18 @@ class _Picture:
         y = self._heading(30)
         if self.plan:
             y = self._labels(y)
+        self.top = y - STEM if self.plan else y
         y = self._scale(y)
+        if self.channels:
+            y = self._strip(y)
         if self.worst:
             y = self._bracket(y)
         height = self._lanes(y)
         return "\n".join([
             f'<svg xmlns="http://www.w3.org/2000/svg" width="{WIDE}" height="{height:.0f}" viewBox="0 0 {WIDE} {height:.0f}">',
-            f"<title>{escape(self.job.name)}</title>", f"<style>{STYLE}{WIDTH_STYLE if self.edges else ''}</style>",
-            f'<rect width="{WIDE}" height="{height:.0f}" fill="white"/>', *self.shapes, "</svg>", ""])
+            f"<title>{escape(self.job.name)}</title>",
+            f"<style>{STYLE}{WIDTH_STYLE if self.edges else ''}{AIR_STYLE if self.channels else ''}</style>",
+            f'<rect width="{WIDE}" height="{height:.0f}" fill="white"/>', *self.behind, *self.shapes, "</svg>", ""])
 
     def _write(self, x, y, words, kind="", anchor="start", more=""):
         self.shapes.append(f'<text x="{x:.1f}" y="{y:.1f}" class="{kind}" text-anchor="{anchor}"{more}>{escape(words)}</text>')
@@ -92,6 +106,9 @@ class _Picture:
         most = int((WIDE - 60) / CHARACTER)
         self._write(24, y, _cut(self.job.name, most * 11 // 17), "title")
         self._write(24, y + 21, _cut(f"{self.sheet.counted()}: {said(self.answer)}", most))
+        if self.channels:
+            y += 18
+            self._write(24, y + 21, _cut(air.told(self.sheet, self.channels), most), "air-text")
         if self.worst:
             told = self.worst.told(*(self.job.names[link] for link in self.worst_links))
             self._write(24, y + 39, _cut(f"tightest pair: {told}", most), "worst-text")
@@ -129,6 +146,28 @@ class _Picture:
         self._write(16, y + 18, "MHz", "quiet")
         return y + 34
 
+    def _strip(self, y):
+        """The numbers of the channels on air below the axis; where they are too narrow, those of channels that adjoin together."""
+        y -= 6
+        self._write(16, y + 10, "TV", "quiet")
+        for first, last in air.runs(self.channels):
+            seen = [(channel, place) for channel in range(first, last + 1) for place in self.axis.seen(*air.edges(channel))]
+            for channel, (left, right) in seen:
+                low, high = map(mhz, air.edges(channel))
+                self.shapes.append(f'<rect x="{left:.1f}" y="{y}" width="{right - left:.1f}" height="13" class="air-strip">'
+                                   f"<title>channel {channel} on air, {low} to {high} MHz</title></rect>")
+            each = [(f"{channel}", place) for channel, place in seen]
+            whole = [(air.written(range(first, last + 1)), place) for place in self.axis.seen(air.edges(first)[0], air.edges(last)[1])]
+            for words, (left, right) in each if all(map(_fits, each)) else filter(_fits, whole):
+                self._write((left + right) / 2, y + 10, words, "air-text", "middle")
+        return y + 25
+
+    def _shade(self, bottom):
+        """Behind carriers and lanes, the channels on air."""
+        for channel in self.channels:
+            for left, right in self.axis.seen(*air.edges(channel)):
+                self.behind.append(f'<rect x="{left:.1f}" y="{self.top:.1f}" width="{right - left:.1f}" height="{bottom - self.top:.1f}" class="air"/>')
+
     def _bracket(self, y):
         """The worst pair below the axis, with its distance: that of the edges that face each other."""
         lows, highs = zip(*(self._stretch(link, self.plan[link]) for link in self.worst_links))
@@ -144,6 +183,7 @@ class _Picture:
         count = len(self.sheet.links)
         step = 17 if count <= 32 else 14
         bottom = y + step * count
+        self._shade(bottom)
         for x, _ in self.axis.ticks():
             self._line([(x, y), (x, bottom)], "grid")
         for link, listed in enumerate(self.sheet.links):
@@ -153,8 +193,13 @@ class _Picture:
             for left, right in self.axis.runs():
                 self._line([(left, middle), (right, middle)], "lane")
             for khz in listed:
-                x = self.axis.x(khz)
-                self._line([(x, middle - 4), (x, middle + 4)], "candidate", f"{self.job.names[link]} can tune to {mhz(khz)} MHz")
+                x, told = self.axis.x(khz), f"{self.job.names[link]} can tune to {mhz(khz)} MHz"
+                channel = air.taker(self.channels, khz)
+                if channel is None:
+                    self._line([(x, middle - 4), (x, middle + 4)], "candidate", told)
+                else:
+                    cross = [(x - 3, middle - 3), (x + 3, middle + 3), (x, middle), (x - 3, middle + 3), (x + 3, middle - 3)]
+                    self._line(cross, "struck", f"{told}, which channel {channel} takes")
             if self.plan:
                 if self.edges:
                     self._band(link, middle - 4, 8, f"{self.job.names[link]}: {mhz(self.plan[link])} MHz")
@@ -167,7 +212,16 @@ class _Picture:
         told += ["bars: its carriers as wide as they are"] if self.plan and self.edges else []
         told += ["red: the tightest pair"] if self.worst else []
         self._write(self.axis.left, end + 4, "; ".join(told), "quiet")
+        if self.channels:
+            end += 16
+            self._write(self.axis.left, end + 4, "shaded: television channels on air; crosses: the frequencies that they take", "quiet")
         return end + 20
+
+
+def _fits(label):
+    """Whether words stand in their place along the axis."""
+    words, (left, right) = label
+    return CHARACTER * len(words) + 2 <= right - left
 
 
 def _cut(name, most=LONGEST_NAME):

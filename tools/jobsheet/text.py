@@ -3,22 +3,24 @@
 import difflib
 import itertools
 import re
-from dataclasses import dataclass
+from dataclasses import dataclass, field
 from fractions import Fraction
 
+from . import channels
 from .binary import (EXACT, LISTED, MOST_FREQUENCIES, MOST_KHZ, MOST_LINKS, MOST_PAIRS, MOST_WIDTH, SPACING, Rule, Sheet)
 
 NUMBER = re.compile(r"([0-9]{1,18}(?:\.[0-9]{1,18})?)(khz|mhz)?", re.IGNORECASE)
-WORDS = ("job", "link", "width", "apart", "exactly", "pairs", "free", "differ")
+WORDS = ("job", "link", "width", "apart", "exactly", "pairs", "free", "differ", "air")
 
 
 @dataclass
 class Job:
-    """A sheet with what only the text form has: the job's name and a name for each link."""
+    """A sheet with what only the text form has: the job's name, a name for each link and the channels on air, rising."""
     name: str
     names: list
     sheet: Sheet
     notes: list
+    channels: list = field(default_factory=list)
 
 
 class TextError(Exception):
@@ -99,6 +101,7 @@ class _Reader:
         self.default = None
         self.widths, self.width_default = {}, None  # each a width with its line; by link, and of `width .. all`
         self.width_line = None  # the first line that gives a width
+        self.air = {}  # by channel on air: the line that names it
 
     def job(self):
         last = 0
@@ -111,7 +114,7 @@ class _Reader:
             self._whole(last)
         if self.faults:
             raise TextError(sorted(self.faults))
-        return Job(self.job_name, self.names, Sheet(self.links, self._all_rules(), self._all_widths()), self.notes)
+        return Job(self.job_name, self.names, Sheet(self.links, self._all_rules(), self._all_widths()), self.notes, sorted(self.air))
 
     def _all_widths(self):
         """The width of each link of a text without faults; None where no line gives one."""
@@ -199,6 +202,8 @@ class _Reader:
         word = words[0]
         if word == "width":
             self._give_width(number, words)
+        elif word == "air":
+            self._on_air(number, words)
         elif word == "apart" and words[2:] == ["all"]:
             self._default(number, words)
         elif word in ("apart", "exactly"):
@@ -239,6 +244,16 @@ class _Reader:
             _, line = self.widths.setdefault(link, given)
             if line != number:
                 raise _Expected(f"expected one width for {self.names[link]}, found a second one beside line {line}")
+
+    def _on_air(self, number, words):
+        try:
+            listed = channels.from_words(channels.words_of(" ".join(words[1:])))
+        except channels.BadChannel as bad:
+            raise _Expected(f"{bad} after air" if len(words) < 2 else str(bad)) from None
+        for channel in listed:
+            if channel in self.air:
+                raise _Expected(f"expected each channel once, found {channel} a second time, beside line {self.air[channel]}")
+            self.air[channel] = number
 
     def _groups(self, word, names):
         """Every two of the named links, as (lower, higher)."""

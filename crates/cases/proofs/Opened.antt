@@ -1,10 +1,12 @@
 -- Every definition that a case computes with, crate by crate.
 use Rattle.sets.specs.Below
 use Rattle.sets.specs.Sets
+use Rattle.channels.specs.Channels
 use Rattle.sheet_rows.specs.Form
 use Rattle.sheet_rows.specs.Rows
 use Rattle.sheet.specs.Sheet
 use Rattle.sheet.specs.Refusal
+use Rattle.rules.specs.Job
 use Rattle.rules.specs.Pairs
 use Rattle.rules.specs.Layers
 use Rattle.rules.specs.Plans
@@ -47,16 +49,20 @@ unfolding Form.formBy Rows.linkFirst Rows.linkCount Rows.linkWidth Sheet.linkOk 
     Refusal.offsetsOk Refusal.unless Refusal.sectionCause Refusal.refusal
 openSheet = tt
 
+unfoldable pub openChannels : Unit {0}
+unfolding Channels.lowerEdge Channels.covers Channels.channelOk Channels.channelsOk Channels.coveredBy Job.unstruck
+openChannels = tt
+
 unfoldable pub openCheck : Unit {0}
 unfolding Plans.placeOf Plans.hasFreq Plans.vertexOf Plans.inLists Plans.pairKept Plans.linkKept Plans.keeps
-    Plans.keepsJob Plans.checked
+    Plans.keepsSheet Plans.clear Plans.keepsJob Plans.checked
 openCheck = tt
 
 unfoldable pub openGraph : Unit {0}
 unfolding Pairs.distance Pairs.samePair Pairs.listsPair Pairs.spaced Pairs.agree Pairs.ruleWidths
     Pairs.ofLinks Pairs.differ Pairs.allows Pairs.joins Layers.layerOf
-    Micro.linksDiffer Micro.adjacent Graph.inClass Graph.size Graph.some Graph.lone Graph.two Graph.lower Graph.isOpen
-    Listing.byLayer
+    Micro.linksDiffer Micro.adjacent Graph.inClass Graph.size Graph.some Graph.lone Graph.two Graph.lower Graph.higher
+    Graph.isOpen Listing.byLayer
 openGraph = tt
 
 unfoldable pub openFilters : Unit {0}
@@ -67,7 +73,8 @@ openFilters = tt
 
 unfoldable pub openPartition : Unit {0}
 unfolding Choice.classList Partition.layersOf Partition.degree Partition.addDegree Partition.byDegree Partition.free
-    Partition.join Partition.fill Partition.greedy Partition.allPlaced Partition.built Partition.classes
+    Partition.join Partition.fill Partition.greedy Partition.allPlaced Partition.built Partition.isPartition
+    Partition.classes
 openPartition = tt
 
 unfoldable pub openPlanner : Unit {0}

@@ -1,4 +1,4 @@
--- The sheets with known results to prove: M1 to M12 as one list, and those of Asks 2 and 3. A case that holds computes
+-- The jobs with known results to prove: M1 to M12 as one list, and those of Asks 2, 3 and 4. A case that holds computes
 -- to true.
 use mathlib.Core.Bool.{Bool, true, false, _&&_}
 use mathlib.Core.List.{List, [], _∷_}
@@ -7,10 +7,9 @@ use Prim.Native.String.{String}
 use lib.Dec.{T, eqb}
 use lib.ListN.{length}
 use Rattle.sets.specs.Below.{all}
-use Rattle.sets.specs.Sets.{whole}
 use Rattle.sheet.specs.Sheet.{nOf}
 use Rattle.sheet.specs.Refusal.{refusal}
-use Rattle.rules.specs.Job.{Job, jobOf}
+use Rattle.rules.specs.Job.{Job, jobOf, jobWith, unstruck}
 use Rattle.rules.specs.Plans.{checked}
 use Rattle.filters.specs.PreFilter.{preFilter}
 use Rattle.graph.specs.Graph.{layer, graphOf}
@@ -53,13 +52,16 @@ example3 =
     (table 0 1 ((0, 0) ∷ (1, 0) ∷ (1, 1) ∷ (1, 2) ∷ []) ∷ table 0 2 ((0, 0) ∷ []) ∷ table 1 2 ((1, 0) ∷ []) ∷ [])
 
 -- a planning call of a sheet, under each filter of a list and each choice of a list, with a plan cell for each cell of
--- the outcome; the printed text; the vertices that the pre-filter leaves; the reader's number; the check's, of cells
+-- the outcome; the printed text; the vertices that the pre-filter leaves; the reader's number; the check's, of cells; a
+-- planning call of a job, under each filter of a list, by a setting for each; the check's number
 pub data Case : Type 0 where
   plans : List ℕ → List ℕ → List ℕ → Outcome → Case
   prints : List ℕ → String → Case
   leaves : List ℕ → List ℕ → Case
   reads : List ℕ → ℕ → Case
   checks : List ℕ → List ℕ → ℕ → Case
+  plansJob : Job → List ℕ → (ℕ → Setting) → Outcome → Case
+  checksJob : Job → List ℕ → ℕ → Case
 
 abbrev pub sameList : List ℕ → List ℕ → Bool
 sameList [] [] = true
@@ -89,19 +91,29 @@ bothOrNeither false false = true
 abbrev pub settingWith : ℕ → ℕ → Setting
 settingWith filter choice = record { filter = filter; choice = choice; limit = 1000000; callers = [] }
 
+-- a choice, or a caller's list
+abbrev pub choosing : ℕ → ℕ → Setting
+choosing choice filter = settingWith filter choice
+
+abbrev pub listing : List ℕ → ℕ → Setting
+listing callers filter = record { filter = filter; choice = 2; limit = 1000000; callers = callers }
+
 -- the vertices that the pre-filter leaves of the whole graph
 abbrev pub isLeft : Job → ℕ → Bool
-isLeft job = preFilter (graphOf job (layer job)) (layer job) (whole (nOf (job .sheet)))
+isLeft job = preFilter (graphOf job (layer job)) (layer job) (unstruck job)
+
+-- the planning call of a job gives the outcome under each filter of a list
+abbrev pub given : Job → List ℕ → (ℕ → Setting) → Outcome → Bool
+given job filters x o = each filters λ filter. sameOutcome (outcome job (x filter) (length (o .cells)) workWords) o
 
 abbrev pub holds : Case → Bool
-holds (plans s filters choices o) =
-    each filters λ filter.
-    each choices λ choice.
-    sameOutcome (outcome (jobOf s) (settingWith filter choice) (length (o .cells)) workWords) o
+holds (plans s filters choices o) = each choices λ choice. given (jobOf s) filters (choosing choice) o
 holds (prints s text) = sameList (printed s) (ascii text)
 holds (leaves s vs) = all (nOf s) (λ v. bothOrNeither (isLeft (jobOf s) v) (isIn vs v))
 holds (reads s number) = eqb (refusal s) number
 holds (checks s cells number) = eqb (checked (jobOf s) cells) number
+holds (plansJob job filters x o) = given job filters x o
+holds (checksJob job cells number) = eqb (checked job cells) number
 
 abbrev pub allHold : List Case → Bool
 allHold [] = true
@@ -153,7 +165,7 @@ wide v w kind value =
     (record { a = 0; b = 1; kind = kind; value = value; pairs = [] } ∷ [])
 
 -- between edges of 30 and 50 kHz no pair leaves 400 kHz and one leaves 360, which is missed by half a kHz where a
--- carrier is wider by 1; kind 2 on centres; the widths' range; 16 after 5, its sum too, and before 6
+-- carrier is wider by 1; kind 2 on centres; the widths' range; 16 after 5 and before 6
 abbrev pub edges : List Case
 edges =
     plans (wide 30 50 1 400) (0 ∷ []) (0 ∷ []) (noPlanIn 3 (0 ∷ 0 ∷ [])) ∷
@@ -169,5 +181,44 @@ edges =
     reads (encodeWide (0 ∷ 1 ∷ []) ((500000 ∷ []) ∷ [] ∷ []) []) 5 ∷
     reads (encodeWide (1 ∷ 0 ∷ []) ((0 ∷ []) ∷ (500000 ∷ []) ∷ []) []) 16 ∷ []
 
+-- Ask 4: two links without a rule, each with a frequency on channel 24, which covers 494,000 up to, but without,
+-- 502,000 kHz, and one just outside it
+abbrev pub besideAir : List ℕ
+besideAir = encode ((501999 ∷ 502000 ∷ []) ∷ (493999 ∷ 494000 ∷ []) ∷ []) []
+
+-- all of link 0 on channel 24, none of link 1
+abbrev pub onAirAlone : List ℕ
+onAirAlone = encode ((500000 ∷ 500100 ∷ []) ∷ (510000 ∷ 520000 ∷ []) ∷ []) []
+
+abbrev pub refusedBy : ℕ → Outcome
+refusedBy number = record { answer = number; nodes = 0; cells = 0 ∷ 0 ∷ [] }
+
+-- what is left is planned, under each choice; a struck vertex keeps its class byte, which is below k; a link left empty
+-- has no plan in 0 nodes, where each class has a vertex too; 17 for a list out of range or order, before 12; the check
+-- says no to a struck frequency, and knows 17 after 10; channel 48 ends below 694,000
+abbrev pub onAir : List Case
+onAir =
+    plansJob (jobOf besideAir) (0 ∷ 7 ∷ []) (choosing 0) (foundIn 3 (501999 ∷ 493999 ∷ [])) ∷
+    plansJob (jobWith besideAir (24 ∷ [])) anyFilter (choosing 0) (foundIn 3 (502000 ∷ 493999 ∷ [])) ∷
+    plansJob (jobWith besideAir (24 ∷ [])) (0 ∷ 7 ∷ []) (choosing 1) (foundIn 3 (502000 ∷ 493999 ∷ [])) ∷
+    plansJob (jobWith besideAir (21 ∷ 24 ∷ 48 ∷ [])) (0 ∷ 7 ∷ []) (listing (1 ∷ 0 ∷ 1 ∷ 1 ∷ []))
+    (foundIn 3 (502000 ∷ 493999 ∷ [])) ∷
+    plansJob (jobWith besideAir (24 ∷ [])) (0 ∷ []) (listing (2 ∷ 0 ∷ 1 ∷ 1 ∷ [])) (refusedBy 12) ∷
+    plansJob (jobWith onAirAlone (24 ∷ [])) anyFilter (choosing 0) (noPlanIn 0 (0 ∷ 0 ∷ [])) ∷
+    plansJob (jobWith onAirAlone (24 ∷ [])) anyFilter (choosing 1) (noPlanIn 0 (0 ∷ 0 ∷ [])) ∷
+    plansJob (jobWith onAirAlone (24 ∷ [])) anyFilter (listing (0 ∷ 0 ∷ 0 ∷ 1 ∷ [])) (noPlanIn 0 (0 ∷ 0 ∷ [])) ∷
+    plansJob (jobWith besideAir (20 ∷ [])) (0 ∷ []) (listing []) (refusedBy 17) ∷
+    plansJob (jobWith besideAir (49 ∷ [])) (0 ∷ []) (choosing 0) (refusedBy 17) ∷
+    plansJob (jobWith besideAir (24 ∷ 24 ∷ [])) (0 ∷ []) (choosing 0) (refusedBy 17) ∷
+    plansJob (jobWith besideAir (24 ∷ [])) (8 ∷ []) (choosing 0) (refusedBy 9) ∷
+    checksJob (jobWith besideAir (24 ∷ [])) (502000 ∷ 493999 ∷ []) 100 ∷
+    checksJob (jobWith besideAir (24 ∷ [])) (501999 ∷ 493999 ∷ []) 0 ∷
+    checksJob (jobWith besideAir (23 ∷ [])) (501999 ∷ 493999 ∷ []) 0 ∷
+    checksJob (jobWith besideAir (25 ∷ [])) (501999 ∷ 493999 ∷ []) 100 ∷
+    checksJob (jobWith besideAir (20 ∷ [])) (502000 ∷ 493999 ∷ []) 17 ∷
+    checksJob (jobWith besideAir (20 ∷ [])) (502000 ∷ []) 10 ∷
+    checksJob (jobWith (encode ((693999 ∷ 694000 ∷ []) ∷ []) []) (48 ∷ [])) (693999 ∷ []) 0 ∷
+    checksJob (jobWith (encode ((693999 ∷ 694000 ∷ []) ∷ []) []) (48 ∷ [])) (694000 ∷ []) 100 ∷ []
+
 abbrev pub CasesHold : Type 0
-CasesHold = T (allHold cases && (allHold shared && allHold edges))
+CasesHold = T (allHold cases && (allHold shared && (allHold edges && allHold onAir)))

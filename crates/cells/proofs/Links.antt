@@ -16,7 +16,7 @@ use Rattle.sheet.specs.Accepted.{Accepted}
 use Rattle.cliques.specs.Listing.{byLayer}
 use Rattle.rules.specs.Job.{jobOf}
 use Rattle.rules.proofs.Laws.{link-test}
-use Rattle.graph.specs.Graph.{layer}
+use Rattle.graph.specs.Graph.{linkOf}
 use Rattle.sets.specs.Below.{first, tabulate}
 use Rattle.sets.proofs.Below.{first-lt}
 use Rattle.sets.proofs.Lists.{length-tabulate, getD-tabulate}
@@ -30,15 +30,15 @@ module _ (s : List ℕ) (A : Accepted s) (l v : ℕ) (a : l < kOf s) (b : v < nO
   count = linkCount s l
 
   -- the code's test of a vertex's link
-  in-link-is : (leb from v && ltb v (from + count)) ≡ eqb (layer (jobOf s) v) l
+  in-link-is : (leb from v && ltb v (from + count)) ≡ eqb (linkOf (jobOf s) v) l
   in-link-is = link-test s (kOf s) (nOf s) (A .links) l v a b
-      ∙ iff _ _ (λ e. eq-eqb _ _ (sym (eqb-true l (layer (jobOf s) v) e)))
-      (λ e. eq-eqb _ _ (sym (eqb-true (layer (jobOf s) v) l e)))
+      ∙ iff _ _ (λ e. eq-eqb _ _ (sym (eqb-true l (linkOf (jobOf s) v) e)))
+      (λ e. eq-eqb _ _ (sym (eqb-true (linkOf (jobOf s) v) l e)))
 
-  pub not-in-link : v < from → false ≡ eqb (layer (jobOf s) v) l
+  pub not-in-link : v < from → false ≡ eqb (linkOf (jobOf s) v) l
   not-in-link e = sym (ap (λ x. x && ltb v (from + count)) (lt-leb _ _ e)) ∙ in-link-is
 
-  pub in-link-by : (m : ℕ) → from ≤ v → m ≡ count → ltb (v - from) m ≡ eqb (layer (jobOf s) v) l
+  pub in-link-by : (m : ℕ) → from ≤ v → m ≡ count → ltb (v - from) m ≡ eqb (linkOf (jobOf s) v) l
   in-link-by m e q =
       rw q (iff _ _ (λ t. lt-ltb v (from + count) (let z = ltb-true (v - from) count t in omega arith))
       (λ t. lt-ltb (v - from) count (let z = ltb-true v (from + count) t in omega arith)))
@@ -46,13 +46,13 @@ module _ (s : List ℕ) (A : Accepted s) (l v : ℕ) (a : l < kOf s) (b : v < nO
 
 -- the vertex chosen for class j is one of link l
 abbrev pub isHere : List ℕ → List ℕ → ℕ → ℕ → Bool
-isHere s chosen l j = eqb (layer (jobOf s) (chosenBy chosen j)) l
+isHere s chosen l j = eqb (linkOf (jobOf s) (chosenBy chosen j)) l
 
 pub class-lt : {s chosen : List ℕ} → Chosen s chosen → (l : ℕ) → l < kOf s → first (kOf s) (isHere s chosen l) < kOf s
 class-lt {s} {chosen} C l h = first-lt (kOf s) (isHere s chosen l) (C .hit l h)
 
 pub cell-in : (s : List ℕ) (p : ℕ → ℕ) (l : ℕ) → l < kOf s
-    → cellOf (jobOf s) p l ≡ freq (freqPart s) (p (first (kOf s) (λ j. eqb (layer (jobOf s) (p j)) l)))
+    → cellOf (jobOf s) p l ≡ freq (freqPart s) (p (first (kOf s) (λ j. eqb (linkOf (jobOf s) (p j)) l)))
 unfolding cellOf byLayer
 cell-in s p l h = rw (lt-ltb l (kOf s) h)
 

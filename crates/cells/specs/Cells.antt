@@ -9,7 +9,7 @@ use Rattle.sets.specs.Below.{any, tabulate}
 use Rattle.sheet.specs.Sheet.{kOf, nOf}
 use Rattle.sheet.specs.Accepted.{Accepted}
 use Rattle.rules.specs.Job.{Job, jobOf}
-use Rattle.graph.specs.Graph.{layer}
+use Rattle.graph.specs.Graph.{linkOf}
 use Rattle.graph.specs.Matches.{assignment}
 
 -- the cell of link l: the frequency of the link's vertex, the plan p being listed by class; zero past the links
@@ -29,4 +29,4 @@ pub record Chosen (s chosen : List ℕ) : Type 0 where
   pub accepted : Accepted s
   pub listed : kOf s ≤ length chosen
   pub lt : (j : ℕ) → j < kOf s → chosenBy chosen j < nOf s
-  pub hit : (l : ℕ) → l < kOf s → any (kOf s) (λ j. eqb (layer (jobOf s) (chosenBy chosen j)) l) ≡ true
+  pub hit : (l : ℕ) → l < kOf s → any (kOf s) (λ j. eqb (linkOf (jobOf s) (chosenBy chosen j)) l) ≡ true

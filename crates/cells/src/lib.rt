@@ -9,7 +9,7 @@ ghost use Rattle.sheet_rows.specs.Rows.{freq as freqOf};
 ghost use Rattle.sheet.specs.Sheet.{kOf, nOf, freqPart};
 ghost use Rattle.sheet.specs.Accepted.{Accepted};
 ghost use Rattle.rules.specs.Job.{jobOf};
-ghost use Rattle.graph.specs.Graph.{layer};
+ghost use Rattle.graph.specs.Graph.{linkOf};
 ghost use Rattle.zeros.specs.Zeros.{zeros};
 ghost use Rattle.cells.specs.Cells.{chosenBy, planCells, Chosen};
 use sheet::freqs_at;
@@ -34,7 +34,7 @@ fn narrow(x: usize) -> u32
 // Whether vertex v is one of link l.
 fn in_link(sheet: &[u8], l: usize, v: usize) -> bool
     requires { ⌜ Accepted (now sheet) × (l < kOf (now sheet)) × (v < nOf (now sheet)) ⌝ }
-    ensures { λ r. ⌜ r ≡ eqb (layer (jobOf (now (sheet .entry))) v) l ⌝ }
+    ensures { λ r. ⌜ r ≡ eqb (linkOf (jobOf (now (sheet .entry))) v) l ⌝ }
 {
     let from = link_first(sheet, l);
     if v < from {
@@ -47,7 +47,7 @@ fn in_link(sheet: &[u8], l: usize, v: usize) -> bool
 fn class_in_link(sheet: &[u8], chosen: &[u32], l: usize) -> usize
     requires { ⌜ Chosen (now sheet) (now chosen) × (l < kOf (now sheet)) ⌝ }
     ensures { λ r. ⌜ r ≡ first (kOf (now (sheet .entry)))
-        (λ j. eqb (layer (jobOf (now (sheet .entry))) (chosenBy (now (chosen .entry)) j)) l) ⌝ }
+        (λ j. eqb (linkOf (jobOf (now (sheet .entry))) (chosenBy (now (chosen .entry)) j)) l) ⌝ }
 {
     let k = links_of(sheet);
     let mut c = 0;

@@ -1,60 +1,12 @@
-// The console's two calls, with numbers and byte slices, for a C program. Their contracts cite specs/Console.antt, for
-// every input.
-mod cell_bytes;
-
+// The console's two calls, with numbers and byte slices, for a C program. They lend no list of channels. Their
+// contracts cite specs/ByteCalls.antt of the crate byte_calls, for every input.
 ghost use mathlib.Core.Path.{_≡_};
-ghost use Prim.Native.Nat.{_+_, _*_, _^_, _≤_, min, _/_};
 ghost use lib.ListN.{length};
-ghost use Rattle.sets.specs.Below.{tabulate};
 ghost use Rattle.rules.specs.Job.{jobOf};
-ghost use Rattle.rules.specs.Plans.{checked};
-ghost use Rattle.setting.specs.Setting.{settingOf};
-ghost use Rattle.planner.specs.Outcome.{outcome};
-ghost use Rattle.planner.specs.Planned.{verdictNumber};
-ghost use Rattle.console.specs.Console.{consoleOutcome, consoleCheck, Handed, cellIn};
-use cell_bytes::get_cells;
-use cell_bytes::put_cells;
-use planner::Planned;
-use planner::check;
-use planner::plan;
-use planner::verdict_number;
-use rules::check_number;
+ghost use Rattle.byte_calls.specs.ByteCalls.{outcomeIn, checkedIn, Handed};
+use byte_calls::check_bytes;
+use byte_calls::plan_bytes;
 use setting::Options;
-
-// The number that the console is handed.
-fn number(p: Planned) -> u64
-    ensures { λ r. ⌜ r ≡ p .nodes + 2 ^ 32 * verdictNumber (p .verdict) ⌝ }
-{
-    let nodes = p.nodes as u64;
-    let verdict = p.verdict;
-    nodes + 4294967296 * (verdict_number(verdict) as u64)
-}
-
-// The cells that the planner is lent: no sheet has more than 64 links.
-fn lent(bytes: usize) -> usize
-    ensures { λ r. ⌜ (r ≡ min (bytes / 4) 64) × (r ≤ 64) ⌝ }
-{
-    let m = bytes / 4;
-    if m < 64 { m } else { 64 }
-}
-
-// Plans in the cells and words lent, and writes the cells as bytes.
-fn plan_into(
-    sheet: &[u8],
-    options: Options,
-    classes: &[u8],
-    cells: &mut [u32],
-    work: &mut [u64],
-    bytes: &mut [u8],
-) -> u64
-    ensures { λ r. ⌜ Handed (outcome (jobOf (now (sheet .entry))) (settingOf options (now (classes .entry)))
-        (length (now (cells .entry))) (length (now (work .entry))))
-        (length (now (bytes .entry))) r (now (bytes .exit)) ⌝ }
-{
-    let p = plan(sheet, options, classes, cells, work);
-    put_cells(cells, bytes);
-    number(p)
-}
 
 // Plans a sheet. The work words are the call's own.
 #[no_mangle]
@@ -66,38 +18,23 @@ pub extern "C" fn guvtemi_plan(
     classes: &[u8],
     bytes: &mut [u8],
 ) -> u64
-    ensures { λ r. ⌜ Handed (consoleOutcome (jobOf (now (sheet .entry)))
+    ensures { λ r. ⌜ Handed (outcomeIn (jobOf (now (sheet .entry)))
         (record { filter = filter; choice = choice; limit = limit; callers = now (classes .entry) })
         (length (now (bytes .entry))))
         (length (now (bytes .entry))) r (now (bytes .exit)) ⌝ }
 {
-    let mut work = [0u64; 8192];
-    let mut cells = [0u32; 64];
-    let m = lent(bytes.len());
     let options = Options {
         filter,
         choice,
         limit,
     };
-    plan_into(sheet, options, classes, &mut cells[..m], &mut work, bytes)
-}
-
-// Checks the first cells in some bytes, as many as are lent.
-fn check_into(sheet: &[u8], bytes: &[u8], cells: &mut [u32]) -> u64
-    requires { ⌜ 4 * length (now cells) ≤ length (now bytes) ⌝ }
-    ensures { λ r. ⌜ r ≡ checked (jobOf (now (sheet .entry)))
-        (tabulate (length (now (cells .entry))) (cellIn (now (bytes .entry)))) ⌝ }
-{
-    get_cells(bytes, cells);
-    check_number(check(sheet, cells)) as u64
+    plan_bytes(sheet, b"", options, classes, bytes)
 }
 
 // Checks cells against a sheet: 0 for no, 100 for yes, or the refusal's number.
 #[no_mangle]
 pub extern "C" fn guvtemi_check(sheet: &[u8], bytes: &[u8]) -> u64
-    ensures { λ r. ⌜ r ≡ consoleCheck (jobOf (now (sheet .entry))) (now (bytes .entry)) ⌝ }
+    ensures { λ r. ⌜ r ≡ checkedIn (jobOf (now (sheet .entry))) (now (bytes .entry)) ⌝ }
 {
-    let mut cells = [0u32; 64];
-    let m = lent(bytes.len());
-    check_into(sheet, bytes, &mut cells[..m])
+    check_bytes(sheet, b"", bytes)
 }

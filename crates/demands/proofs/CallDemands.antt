@@ -7,14 +7,13 @@ use native.Mathlib.Omega.{arith}
 use lib.ListN.{length}
 use borrow.Author.Tests.{le-leb}
 use Rattle.sheet.specs.Sheet.{kOf}
-use Rattle.sheet.specs.Refusal.{refusal}
 use Rattle.sheet.proofs.Causes.{cause-most, cause-some}
 use Rattle.rules.specs.Job.{Job}
 use Rattle.rules.specs.Plans.{cellsOf, keepsJob, checked, checkNumber}
 use Rattle.rules.specs.declared.CheckAnswer.{CheckAnswer}
-use Rattle.rules.specs.declared.CheckAnswer.the-variants.{No, Yes, Few, Refused}
+use Rattle.rules.specs.declared.CheckAnswer.the-variants.{No, Yes, Few, BadChannels, Refused}
 use Rattle.sets.proofs.Tests.{is-false}
-use Rattle.graph.specs.Matches.{KeepsEveryRule}
+use Rattle.graph.specs.Matches.{KeepsEveryRule, MayCheck}
 use Rattle.graph.proofs.Matches.{demand2}
 use Rattle.planner.specs.Outcome.{outcome}
 use Rattle.planner.specs.Planned.{gave}
@@ -40,20 +39,28 @@ is-yes : (a : CheckAnswer) → checkNumber a ≡ 100 → a ≡ Yes
 is-yes Yes e = refl
 is-yes No e = absurd (omega arith)
 is-yes Few e = absurd (omega arith)
+is-yes BadChannels e = absurd (omega arith)
 is-yes (Refused x) e = absurd (omega (arith, cause-most x))
 
 is-no : (a : CheckAnswer) → checkNumber a ≡ 0 → a ≡ No
 is-no No e = refl
 is-no Yes e = absurd (omega arith)
 is-no Few e = absurd (omega arith)
+is-no BadChannels e = absurd (omega arith)
 is-no (Refused x) e = absurd (omega (arith, cause-some x))
 
--- cells of an accepted sheet that break a rule
-checked-no : (job : Job) (cells : List ℕ) → refusal (job .sheet) ≡ 0 → kOf (job .sheet) ≤ length cells
-    → (KeepsEveryRule job (cellsOf cells) → ⊥) → checked job cells ≡ 0
+-- cells that are not refused and break a rule
+checked-no : (job : Job) (cells : List ℕ) → MayCheck job cells → (KeepsEveryRule job (cellsOf cells) → ⊥)
+    → checked job cells ≡ 0
 unfolding checked
-checked-no job cells e f n =
-    rw (e, le-leb (kOf (job .sheet)) (length cells) f, is-false (keepsJob job (cellsOf cells)) n) refl
+checked-no job cells m n =
+    rw (
+      m .sheet,
+      le-leb (kOf (job .sheet)) (length cells) (m .enough),
+      m .channels,
+      is-false (keepsJob job (cellsOf cells)) n,
+    )
+    refl
 
 pub call-demand2 : CallDemand2
 call-demand2 = record {
@@ -63,8 +70,8 @@ call-demand2 = record {
       subst (λ y. KeepsEveryRule job (cellsOf y)) (ap (λ y. y .cells) o)
       (demand3 .answered job x (c .m) (c .w) (found-accepted job x (c .m) (c .w) f) .keeps f);
   only = λ job cells a c e. demand2 .check job cells .only (sym c ∙ ap checkNumber e);
-  all = λ job cells a c e f g. is-yes a (c ∙ demand2 .check job cells .all e f g);
-  no = λ job cells a c e f n. is-no a (c ∙ checked-no job cells e f n);
+  all = λ job cells a c m k. is-yes a (c ∙ demand2 .check job cells .all m k);
+  no = λ job cells a c m n. is-no a (c ∙ checked-no job cells m n);
 }
 
 pub call-demand3 : CallDemand3

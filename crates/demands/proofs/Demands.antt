@@ -3,25 +3,25 @@
 use mathlib.Core.Path.{_≡_, refl, sym, ap, subst, _∙_}
 use mathlib.Core.Bool.{cond}
 use mathlib.Core.List.{List}
-use Prim.Native.Nat.{ℕ, _≤_, _<_, min}
+use Prim.Native.Nat.{ℕ, _≤_, _<_}
 use native.Mathlib.Omega.{arith}
-use lib.Dec.{ltb}
 use borrow.Author.Tests.{lt-ltb}
-use Rattle.sets.specs.Sets.{Set, whole}
+use Rattle.sets.specs.Sets.{Set}
 use Rattle.sets.proofs.Lists.{getD-tabulate}
 use Rattle.sheet_rows.specs.Rows.{freq}
-use Rattle.sheet.specs.Sheet.{kOf, nOf, freqPart}
+use Rattle.sheet.specs.Sheet.{kOf, freqPart}
 use Rattle.sheet.specs.Refusal.{refusal}
+use Rattle.sheet.specs.Accepted.{Accepted}
 use Rattle.sheet.proofs.Accepted.{accepted}
-use Rattle.rules.specs.Job.{Job}
+use Rattle.rules.specs.Job.{Job, unstruck}
 use Rattle.rules.specs.Plans.{cellsOf}
-use Rattle.cliques.specs.Graph.{Graph, Clique, KClique, Layers}
+use Rattle.cliques.specs.Graph.{Graph, Clique, Layers}
 use Rattle.cliques.specs.Listing.{byLayer}
 use Rattle.cliques.proofs.Listing.{clique-any, by-layer-clique, by-layer-at, by-layer-back, by-layer-same, by-layer-hit}
 use Rattle.filters.specs.Switches.{Adds}
-use Rattle.graph.specs.Graph.{layer, graphOf}
-use Rattle.graph.specs.Matches.{KeepsEveryRule, IsClique, assignment, vertices, Matches}
-use Rattle.graph.proofs.Graph.{layers-of}
+use Rattle.graph.specs.Graph.{linkOf, unlessStruck, layer, graphOf}
+use Rattle.graph.specs.Matches.{KeepsEveryRule, IsClique, assignment, vertices}
+use Rattle.graph.proofs.Graph.{links-of, layers-left, left-clique, clique-left}
 use Rattle.graph.proofs.Matches.{vertices-clique, vertices-same, keeps-first-k, matches}
 use Rattle.partition.specs.Partition.{classOf}
 use Rattle.search.specs.Tree.{Tree, found, noPlan, nodes}
@@ -35,10 +35,10 @@ use Rattle.cells.specs.Cells.{cellOf, planCells}
 use Rattle.setting.specs.Setting.{Setting}
 use Rattle.work_words.specs.Classes.{classesOf, graphIn}
 use Rattle.work_words.proofs.Classes.{classes-layers}
-use Rattle.planner.specs.Outcome.{Outcome, treeOf, outcomeOf, outcome}
+use Rattle.planner.specs.Outcome.{treeOf, outcomeOf}
 use Rattle.planner.proofs.Accepted.{Call, call-accepted, choice-small}
 use Rattle.planner.proofs.Outcomes.{outcome-refused, outcome-accepted}
-use Rattle.demands.specs.Demands.{byClass, Later, Other, Answered, Added, withFilter, Demand1, Demand3}
+use Rattle.demands.specs.Demands.{byClass, Later, Other, Answered, withFilter, Demand1, Demand3}
 use Rattle.demands.proofs.Answers.{answer-case, le-nodes}
 
 module _ (job : Job) (x : Setting) (m w : ℕ) (C : Call job x m w) where
@@ -51,17 +51,30 @@ module _ (job : Job) (x : Setting) (m w : ℕ) (C : Call job x m w) where
   abbrev cls : ℕ → ℕ
   cls = classOf (classesOf job x)
 
+  abbrev byLink : Graph
+  byLink = graphOf job (linkOf job)
+
+  abbrev byList : Graph
+  byList = graphOf job (classOf (classesOf job x))
+
   abbrev L : Set
-  L = whole (nOf (job .sheet))
+  L = unstruck job
 
   ok : refusal (job .sheet) ≡ 0
   ok = C .sheet
 
-  law : Layers (graphIn job x) (layer job)
-  law = layers-of job ok cls
+  A : Accepted (job .sheet)
+  A = accepted s ok
 
-  law′ : Layers (graphOf job (layer job)) (classOf (classesOf job x))
-  law′ = classes-layers (accepted s ok) x (choice-small x (C .setting)) (C .list)
+  -- links and classes are layers, whatever the classes of the graph; for the tree a struck vertex is in none
+  by-links : (g : ℕ → ℕ) → Layers (graphOf job g) (linkOf job) (unstruck job)
+  by-links = links-of job A
+
+  by-classes : (g : ℕ → ℕ) → Layers (graphOf job g) (classOf (classesOf job x)) (unstruck job)
+  by-classes = classes-layers job A x (choice-small x (C .setting)) (C .list)
+
+  left : Layers (graphIn job x) (layer job) (unstruck job)
+  left = let g = unlessStruck job cls in layers-left job g (linkOf job) (by-links g)
 
   -- a k-clique of the job's graph in these classes
   any-class : (c : ℕ → ℕ) → Clique (graphIn job x) 0 L c → IsClique job c
@@ -69,8 +82,8 @@ module _ (job : Job) (x : Setting) (m w : ℕ) (C : Call job x m w) where
 
   -- a rule-keeping assignment, listed by class, is a clique
   by-class : (f : ℕ → ℕ) → KeepsEveryRule job f → Clique (graphIn job x) 0 L (byClass job x f)
-  by-class f K = by-layer-clique (graphOf job (layer job)) cls law′ L (vertices job f)
-      (clique-any (graphOf job (layer job)) L (vertices job f) (vertices-clique job ok f K))
+  by-class f K = left-clique job cls (by-layer-clique byLink cls L (by-classes (linkOf job)) (vertices job f)
+      (clique-any byLink L (vertices job f) (vertices-clique job ok f K)))
 
   -- the cells of a plan are its assignment
   cells-are : (c : ℕ → ℕ) (l : ℕ) → l < kOf (job .sheet) → cellsOf (planCells job c m) l ≡ assignment job c l
@@ -79,8 +92,12 @@ module _ (job : Job) (x : Setting) (m w : ℕ) (C : Call job x m w) where
       getD-tabulate m _ l 0 (omega arith) ∙ ap (λ b. cond b (assignment job c l) 0) (lt-ltb l (kOf s) h)
 
   module _ (c : ℕ → ℕ) (p : Clique (graphIn job x) 0 L c) where
-    by-link : Clique (graphOf job (layer job)) 0 L (byLayer (kOf s) (layer job) c)
-    by-link = by-layer-clique G (layer job) law L c (clique-any G L c p)
+    -- listed by the bytes of its classes, and by link
+    listed : Clique (graphOf job (classOf (classesOf job x))) 0 L c
+    listed = clique-left job cls p
+
+    by-link : Clique (graphOf job (linkOf job)) 0 L (byLayer (kOf s) (linkOf job) c)
+    by-link = by-layer-clique byList (linkOf job) L (by-links cls) c (clique-any byList L c listed)
 
     plan-keeps : KeepsEveryRule job (cellsOf (planCells job c m))
     plan-keeps = keeps-first-k job ok (assignment job c) (cellsOf (planCells job c m)) (λ l h. sym (cells-are c l h))
@@ -89,28 +106,27 @@ module _ (job : Job) (x : Setting) (m w : ℕ) (C : Call job x m w) where
     -- the plan's own cells, listed by class, are the plan
     plan-listed : (j : ℕ) → j < kOf s → byClass job x (cellsOf (planCells job c m)) j ≡ c j
     plan-listed j h =
-        by-layer-same (kOf s) cls (vertices job (cellsOf (planCells job c m))) (byLayer (kOf s) (layer job) c) j
+        by-layer-same (kOf s) cls (vertices job (cellsOf (planCells job c m))) (byLayer (kOf s) (linkOf job) c) j
         (λ l i. ap (λ y. vertices job (λ _. y) l) (cells-are c l i)
-        ∙ vertices-same job ok (byLayer (kOf s) (layer job) c) by-link l i)
-        (by-layer-hit (graphOf job (layer job)) cls law′ L (byLayer (kOf s) (layer job) c)
-        (clique-any (graphOf job (layer job)) L (byLayer (kOf s) (layer job) c) by-link) j h)
-        ∙ by-layer-back G (layer job) law law′ L c p j h
+        ∙ vertices-same job ok (byLayer (kOf s) (linkOf job) c) by-link l i)
+        (by-layer-hit byLink cls L (by-classes (linkOf job)) (byLayer (kOf s) (linkOf job) c)
+        (clique-any byLink L (byLayer (kOf s) (linkOf job) c) by-link) j h)
+        ∙ by-layer-back byList (linkOf job) L (by-links cls) (by-classes (linkOf job)) c listed j h
 
     -- an assignment that is listed as the plan is takes the plan's frequencies
     listed-same : (f : ℕ → ℕ) → KeepsEveryRule job f → ((j : ℕ) → j < kOf s → byClass job x f j ≡ c j)
         → (l : ℕ) → l < kOf s → cellsOf (planCells job c m) l ≡ f l
     listed-same f K e l h =
-        let g = graphOf job (layer job) in
         let v = vertices-clique job ok f K in
-        let a = clique-any g L (vertices job f) v in
-        let back : byLayer (kOf s) (layer job) (byClass job x f) l ≡ vertices job f l =
-        by-layer-back g cls law′ law L (vertices job f) v l h in
-        let here : byLayer (kOf s) (layer job) (vertices job f) l ≡ vertices job f l =
-        subst (λ i. byLayer (kOf s) (layer job) (vertices job f) i ≡ vertices job f l) (v .at l (omega arith) h .cl)
-        (by-layer-at g (layer job) (layers-of job ok (layer job)) L (vertices job f) a l h) in
+        let a = clique-any byLink L (vertices job f) v in
+        let back : byLayer (kOf s) (linkOf job) (byClass job x f) l ≡ vertices job f l =
+        by-layer-back byLink cls L (by-classes (linkOf job)) (by-links cls) (vertices job f) v l h in
+        let here : byLayer (kOf s) (linkOf job) (vertices job f) l ≡ vertices job f l =
+        subst (λ i. byLayer (kOf s) (linkOf job) (vertices job f) i ≡ vertices job f l) (v .at l (omega arith) h .cl)
+        (by-layer-at byLink (linkOf job) L (by-links (linkOf job)) (vertices job f) a l h) in
         cells-are c l h
-        ∙ ap (freq (freqPart s)) (sym (by-layer-same (kOf s) (layer job) (byClass job x f) c l e
-        (by-layer-hit G (layer job) law L c (clique-any G L c p) l h)) ∙ back ∙ sym here)
+        ∙ ap (freq (freqPart s)) (sym (by-layer-same (kOf s) (linkOf job) (byClass job x f) c l e
+        (by-layer-hit byList (linkOf job) L (by-links cls) c (clique-any byList L c listed) l h)) ∙ back ∙ sym here)
         ∙ matches job ok .back-there f K l h
 
     -- every other one is later
@@ -126,11 +142,11 @@ module _ (job : Job) (x : Setting) (m w : ℕ) (C : Call job x m w) where
   -- what the tree says of its plan
   good : (t : Tree) → treeOf job x ≡ t → All (Clique (graphIn job x) 0 L) t
   unfolding treeOf
-  good t e = subst (All (Clique G 0 L)) e (tree-good G (layer job) law (x .filter) L)
+  good t e = subst (All (Clique G 0 L)) e (tree-good G (layer job) L left (x .filter))
 
   first : (t : Tree) → treeOf job x ≡ t → First (graphIn job x) 0 L t
   unfolding treeOf
-  first t e = subst (First G 0 L) e (tree-first G (layer job) law (x .filter) L)
+  first t e = subst (First G 0 L) e (tree-first G (layer job) L left (x .filter))
 
   answered : Answered job x (outcomeOf job m (answer (x .limit) (treeOf job x)))
   answered = answer-case (λ a. Answered job x (outcomeOf job m a)) (x .limit) (treeOf job x)
@@ -168,7 +184,7 @@ module _ (job : Job) (x : Setting) (m w : ℕ) (C : Call job x m w) where
   -- with filters added the tree has the same plan in no more nodes
   trees-le : (filter : ℕ) → Adds filter (x .filter) → Le (treeOf job (withFilter x filter)) (treeOf job x)
   unfolding treeOf classesOf
-  trees-le filter a = tree-le G (layer job) law filter (x .filter) a L
+  trees-le filter a = tree-le G (layer job) L left filter (x .filter) a
 
 same-told : (job : Job) (m : ℕ) (a′ a : Answer) → Follows a′ a → (outcomeOf job m a .answer ≡ 102 → ⊥)
     → (outcomeOf job m a′ .answer ≡ outcomeOf job m a .answer) × (outcomeOf job m a′ .cells ≡ outcomeOf job m a .cells)

@@ -1,14 +1,16 @@
--- Jobs with the same graph run alike: vertices, links, layers and adjacency make the classes, the filters and the tree.
+-- Jobs with the same graph run alike: vertices, links, the link of each vertex, strikes and adjacency make the classes,
+-- the filters and the tree.
 use mathlib.Core.Path.{_≡_, refl, ap, _∙_}
-use mathlib.Core.Bool.{Bool, true, false, not, _||_}
+use mathlib.Core.Bool.{Bool, true, false, not, cond, _&&_, _||_}
 use mathlib.Core.List.{List}
 use Prim.Native.Nat.{ℕ}
-use lib.Dec.{eqb}
-use Rattle.sets.specs.Sets.{whole}
+use lib.Dec.{eqb, ltb}
+use Rattle.sets.specs.Sets.{Set}
+use Rattle.channels.specs.Channels.{channelsOk}
 use Rattle.sheet.specs.Sheet.{kOf, nOf}
 use Rattle.sheet.specs.Refusal.{refusal}
-use Rattle.rules.specs.Job.{Job}
-use Rattle.graph.specs.Graph.{layer, edge}
+use Rattle.rules.specs.Job.{Job, struck, unstruck}
+use Rattle.graph.specs.Graph.{linkOf, edge}
 use Rattle.partition.specs.Partition.{classOf, layersOf, isPartition, classes}
 use Rattle.search.specs.Tree.{Tree}
 use Rattle.search.specs.Setting.{tree}
@@ -19,44 +21,48 @@ use Rattle.planner.specs.Outcome.{settingCause, callRefusal, treeOf, outcomeOf,
 use Rattle.demands.specs.SameGraph.{SameGraph, SameVerdict, GraphDecides}
 
 -- classes, tree and the test of the caller's list, by the graph alone
-classesBy : ℕ → ℕ → (ℕ → ℕ) → (ℕ → ℕ → Bool) → Setting → List ℕ
-classesBy n k lay adj x = classes n k adj (x .choice) (layersOf n lay) (x .callers)
+classesBy : ℕ → ℕ → (ℕ → ℕ) → Set → (ℕ → ℕ → Bool) → Setting → List ℕ
+classesBy n k lay out adj x = classes n k adj (x .choice) (layersOf n lay) (x .callers)
 
-treeBy : ℕ → ℕ → (ℕ → ℕ) → (ℕ → ℕ → Bool) → Setting → Tree
-treeBy n k lay adj x =
-    tree (x .filter) (record { n = n; k = k; cls = classOf (classesBy n k lay adj x); adj = adj }) lay (whole n)
+treeBy : ℕ → ℕ → (ℕ → ℕ) → Set → (ℕ → ℕ → Bool) → Setting → Tree
+treeBy n k lay out adj x =
+    let l = classesBy n k lay out adj x in
+    tree (x .filter) (record { n = n; k = k; cls = λ v. cond (out v) k (classOf l v); adj = adj })
+    (λ v. cond (out v) k (lay v)) (λ v. not (out v) && ltb v n)
 
-listBy : ℕ → ℕ → (ℕ → ℕ) → (ℕ → ℕ → Bool) → Setting → Bool
-listBy n k lay adj x = not (eqb (x .choice) 2) || isPartition n k adj (x .callers)
+listBy : ℕ → ℕ → (ℕ → ℕ) → Set → (ℕ → ℕ → Bool) → Setting → Bool
+listBy n k lay out adj x = not (eqb (x .choice) 2) || isPartition n k adj (x .callers)
 
 module _ (job job′ : Job) (S : SameGraph job job′) where
   -- what is made of the graph is the same
-  by-graph {ℓ} : {A : Type ℓ} (f : ℕ → ℕ → (ℕ → ℕ) → (ℕ → ℕ → Bool) → A)
-      → f (nOf (job .sheet)) (kOf (job .sheet)) (layer job) (edge job)
-      ≡ f (nOf (job′ .sheet)) (kOf (job′ .sheet)) (layer job′) (edge job′)
+  by-graph {ℓ} : {A : Type ℓ} (f : ℕ → ℕ → (ℕ → ℕ) → Set → (ℕ → ℕ → Bool) → A)
+      → f (nOf (job .sheet)) (kOf (job .sheet)) (linkOf job) (struck job) (edge job)
+      ≡ f (nOf (job′ .sheet)) (kOf (job′ .sheet)) (linkOf job′) (struck job′) (edge job′)
   by-graph f =
-      ap (λ n. f n (kOf (job .sheet)) (layer job) (edge job)) (S .vertices)
-      ∙ ap (λ k. f (nOf (job′ .sheet)) k (layer job) (edge job)) (S .links)
-      ∙ ap (λ l. f (nOf (job′ .sheet)) (kOf (job′ .sheet)) l (edge job)) (S .layers)
-      ∙ ap (λ a. f (nOf (job′ .sheet)) (kOf (job′ .sheet)) (layer job′) a) (S .edges)
+      ap (λ n. f n (kOf (job .sheet)) (linkOf job) (struck job) (edge job)) (S .vertices)
+      ∙ ap (λ k. f (nOf (job′ .sheet)) k (linkOf job) (struck job) (edge job)) (S .links)
+      ∙ ap (λ l. f (nOf (job′ .sheet)) (kOf (job′ .sheet)) l (struck job) (edge job)) (S .layers)
+      ∙ ap (λ o. f (nOf (job′ .sheet)) (kOf (job′ .sheet)) (linkOf job′) o (edge job)) (S .strikes)
+      ∙ ap (λ a. f (nOf (job′ .sheet)) (kOf (job′ .sheet)) (linkOf job′) (struck job′) a) (S .edges)
 
   module _ (x : Setting) where
     same-classes : classesOf job x ≡ classesOf job′ x
     unfolding classesOf classesBy
-    same-classes = by-graph (λ n k lay adj. classesBy n k lay adj x)
+    same-classes = by-graph (λ n k lay out adj. classesBy n k lay out adj x)
 
     same-tree : treeOf job x ≡ treeOf job′ x
-    unfolding treeOf classesOf treeBy classesBy
-    same-tree = by-graph (λ n k lay adj. treeBy n k lay adj x)
+    unfolding treeOf classesOf unstruck treeBy classesBy
+    same-tree = by-graph (λ n k lay out adj. treeBy n k lay out adj x)
 
     same-list : listOk job x ≡ listOk job′ x
     unfolding listOk listBy
-    same-list = by-graph (λ n k lay adj. listBy n k lay adj x)
+    same-list = by-graph (λ n k lay out adj. listBy n k lay out adj x)
 
-    module _ (r : refusal (job .sheet) ≡ refusal (job′ .sheet)) (m w : ℕ) where
+    module _ (r : refusal (job .sheet) ≡ refusal (job′ .sheet))
+        (q : channelsOk (job .channels) ≡ channelsOk (job′ .channels)) (m w : ℕ) where
       same-refusal : callRefusal job x m w ≡ callRefusal job′ x m w
       unfolding callRefusal settingCause
-      same-refusal = rw (r, S .links, same-list)
+      same-refusal = rw (r, S .links, q, same-list)
 
       same-answer : (a : Answer) → SameVerdict (outcomeOf job m a) (outcomeOf job′ m a)
       same-answer (plan p n) = record { answer = refl; nodes = refl }
@@ -79,5 +85,5 @@ pub graph-decides : GraphDecides
 graph-decides = record {
   classes = same-classes;
   trees = same-tree;
-  runs = λ job job′ S r x m w. same-run job job′ S x r m w;
+  runs = λ job job′ S r q x m w. same-run job job′ S x r q m w;
 }

@@ -3,15 +3,12 @@
 use mathlib.Core.Path.{_≡_}
 use mathlib.Core.List.{List}
 use Prim.Native.Nat.{ℕ, _≤_}
-use lib.ListN.{length}
-use Rattle.sheet.specs.Sheet.{kOf}
-use Rattle.sheet.specs.Refusal.{refusal}
 use Rattle.rules.specs.Job.{Job}
-use Rattle.rules.specs.Plans.{cellsOf, checkNumber}
+use Rattle.rules.specs.Plans.{cellsOf}
 use Rattle.rules.specs.declared.CheckAnswer.{CheckAnswer}
 use Rattle.rules.specs.declared.CheckAnswer.the-variants.{No, Yes}
 use Rattle.filters.specs.Switches.{Adds}
-use Rattle.graph.specs.Matches.{KeepsEveryRule}
+use Rattle.graph.specs.Matches.{KeepsEveryRule, MayCheck}
 use Rattle.zeros.specs.Zeros.{zeros}
 use Rattle.setting.specs.Setting.{Setting}
 use Rattle.planner.specs.Outcome.{callRefusal}
@@ -44,16 +41,16 @@ pub record CallDemand1 : Type 0 where
       → (100 ≤ answerOf c) × (answerOf c ≤ 102)
   pub words : (job : Job) (x : Setting) (c : Called job x) → c .work ≡ zeros (c .w)
 
--- demand 2: "A plan handed out is one of these, and the plan check says yes to exactly these"; to the cells of an
--- accepted sheet it says no where it does not say yes
+-- demand 2: "A plan handed out is one of these, and the plan check says yes to exactly these"; to cells that it does
+-- not refuse it says no where it does not say yes
 pub record CallDemand2 : Type 0 where
   pub handed : (job : Job) (x : Setting) (c : Called job x) → answerOf c ≡ 100 → KeepsEveryRule job (cellsOf (c .cells))
   pub only : (job : Job) (cells : List ℕ) (a : CheckAnswer) → Checking job cells a → a ≡ Yes
-      → (refusal (job .sheet) ≡ 0) × (kOf (job .sheet) ≤ length cells) × KeepsEveryRule job (cellsOf cells)
-  pub all : (job : Job) (cells : List ℕ) (a : CheckAnswer) → Checking job cells a → refusal (job .sheet) ≡ 0
-      → kOf (job .sheet) ≤ length cells → KeepsEveryRule job (cellsOf cells) → a ≡ Yes
-  pub no : (job : Job) (cells : List ℕ) (a : CheckAnswer) → Checking job cells a → refusal (job .sheet) ≡ 0
-      → kOf (job .sheet) ≤ length cells → (KeepsEveryRule job (cellsOf cells) → ⊥) → a ≡ No
+      → MayCheck job cells × KeepsEveryRule job (cellsOf cells)
+  pub all : (job : Job) (cells : List ℕ) (a : CheckAnswer) → Checking job cells a → MayCheck job cells
+      → KeepsEveryRule job (cellsOf cells) → a ≡ Yes
+  pub no : (job : Job) (cells : List ℕ) (a : CheckAnswer) → Checking job cells a → MayCheck job cells
+      → (KeepsEveryRule job (cellsOf cells) → ⊥) → a ≡ No
 
 -- demand 3: stopped, node number, no plan and first plan, "Whatever filters, accepted partition and limit"; and two
 -- calls that differ in their filters alone

@@ -1,5 +1,5 @@
 // The desk's calls, with numbers and byte slices, for a C program: what a planner's desk asks beside the console's two
-// calls. Their contracts cite specs/Desk.antt, for every input.
+// calls. Their contracts cite specs/Desk.antt and specs/ByteCalls.antt of the crate byte_calls, for every input.
 ghost use mathlib.Core.Path.{_≡_};
 ghost use Prim.Native.Nat.{_+_, _*_, _^_, _≤_};
 ghost use lib.ListN.{length};
@@ -7,13 +7,18 @@ ghost use Rattle.dimacs.specs.Export.{exported};
 ghost use Rattle.dimacs.specs.Import.{imported};
 ghost use Rattle.graph_export.specs.Gives.{exportNumber, mostGraph, mostCounts};
 ghost use Rattle.graph_import.specs.Gives.{importNumber, mostSheet};
+ghost use Rattle.rules.specs.Job.{jobWith};
+ghost use Rattle.byte_calls.specs.ByteCalls.{outcomeIn, checkedIn, Handed};
 ghost use Rattle.desk.specs.Desk.{ExportHanded, ImportHanded};
+use byte_calls::check_bytes;
+use byte_calls::plan_bytes;
 use graph_export::Exported;
 use graph_export::export;
 use graph_export::export_number;
 use graph_import::Imported;
 use graph_import::import;
 use graph_import::import_number;
+use setting::Options;
 
 // The number of an export: both lengths and the cause.
 fn exported_number(e: Exported) -> u64
@@ -51,4 +56,36 @@ pub extern "C" fn guvtemi_import(graph: &[u8], counts: &[u8], sheet: &mut [u8]) 
         r (now (sheet .exit)) ⌝ }
 {
     imported_number(import(graph, counts, sheet))
+}
+
+// Plans a job: a sheet and the channels on air. The work words are the call's own.
+#[no_mangle]
+pub extern "C" fn guvtemi_plan_job(
+    sheet: &[u8],
+    channels: &[u8],
+    filter: u32,
+    choice: u32,
+    limit: u32,
+    classes: &[u8],
+    cells: &mut [u8],
+) -> u64
+    ensures { λ r. ⌜ Handed (outcomeIn (jobWith (now (sheet .entry)) (now (channels .entry)))
+        (record { filter = filter; choice = choice; limit = limit; callers = now (classes .entry) })
+        (length (now (cells .entry))))
+        (length (now (cells .entry))) r (now (cells .exit)) ⌝ }
+{
+    let options = Options {
+        filter,
+        choice,
+        limit,
+    };
+    plan_bytes(sheet, channels, options, classes, cells)
+}
+
+// Checks cells against a job: 0 for no, 100 for yes, or the refusal's number.
+#[no_mangle]
+pub extern "C" fn guvtemi_check_job(sheet: &[u8], channels: &[u8], cells: &[u8]) -> u64
+    ensures { λ r. ⌜ r ≡ checkedIn (jobWith (now (sheet .entry)) (now (channels .entry))) (now (cells .entry)) ⌝ }
+{
+    check_bytes(sheet, channels, cells)
 }

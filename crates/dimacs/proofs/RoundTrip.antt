@@ -20,7 +20,7 @@ use Rattle.sheet.proofs.Causes.{unless-zero}
 use Rattle.sheet.proofs.Links.{link-first, link-sum, link-some}
 use Rattle.rules.specs.Job.{jobOf}
 use Rattle.graph.specs.Graph.{layer, edge}
-use Rattle.graph.proofs.Graph.{adjacent-out, layers-of}
+use Rattle.graph.proofs.Graph.{adjacent-out, links-of}
 use Rattle.setting.specs.Setting.{Setting}
 use Rattle.planner.specs.Outcome.{outcome}
 use Rattle.demands.specs.SameGraph.{SameGraph, SameVerdict}
@@ -106,7 +106,7 @@ module _ (s : List ℕ) (ok : refusal s ≡ 0) where
   }
 
   cs-joins : Joins (countsOf s) (edge (jobOf s))
-  cs-joins = let L = layers-of (jobOf s) ok (layer (jobOf s)) in record {
+  cs-joins = let L = links-of (jobOf s) (accepted s ok) (layer (jobOf s)) in record {
     sy = L .sy;
     left = λ u v t. rw cs-vertices (adjacent-out _ _ _ _ _ _ _ u v t .left);
     right = λ u v t. rw cs-vertices (adjacent-out _ _ _ _ _ _ _ u v t .right);
@@ -131,10 +131,11 @@ module _ (s : List ℕ) (ok : refusal s ≡ 0) where
         vertices = H .vertices ∙ cs-vertices;
         links = H .links ∙ cs-length;
         layers = H .layers ∙ sym cs-layers;
+        strikes = refl;
         edges = H .edges;
       } in
       let accepted = imports (graphTextOf s) (countsTextOf s) room e .accepted in
-      record { same = G; runs = graph-decides .runs _ _ G (accepted ∙ sym ok) }
+      record { same = G; runs = graph-decides .runs _ _ G (accepted ∙ sym ok) refl }
 
 -- texts that were read are refused for 15 alone
 fifteen : (w : Texts) (cs : List ℕ) (E : Set) (room : ℕ) → w ≡ texts cs E → (textsCause w room ≡ 0 → ⊥)

@@ -1,7 +1,7 @@
 -- The pre-filter keeps its promise. It strikes no vertex of a k-clique: by the pigeonhole a k-clique has a vertex in
 -- each of the k layers.
 use mathlib.Core.Path.{_≡_, refl, sym, subst}
-use mathlib.Core.Bool.{true, _&&_, _||_}
+use mathlib.Core.Bool.{true, _||_}
 use mathlib.Core.Logic.{_⊎_, inl, inr}
 use Prim.Native.Nat.{ℕ, zero, suc, _≤_}
 use native.Mathlib.Omega.{arith}
@@ -11,12 +11,12 @@ use Rattle.sets.specs.Sets.{Set, _⊆_}
 use Rattle.sets.proofs.Tests.{clash, bool, and-in, or-l, or-r, or-case}
 use Rattle.sets.proofs.Below.{any-in}
 use Rattle.sets.proofs.Sets.{meet-l, meet-in, meet-mono}
-use Rattle.cliques.specs.Graph.{Graph, isOpen, Clique, layered, Layers}
+use Rattle.cliques.specs.Graph.{Graph, Clique, layered, Layers}
 use Rattle.filters.specs.Promise.{PrePromise}
 use Rattle.filters.specs.Sweep.{near}
 use Rattle.filters.specs.PreFilter.{preTo, preFilter}
-use Rattle.cliques.proofs.Listing.{clique-any, hits, layers-open}
-use Rattle.cliques.proofs.Graph.{clique-move, clique-open}
+use Rattle.cliques.proofs.Listing.{clique-any, hits, none-empty, layers-less}
+use Rattle.cliques.proofs.Graph.{clique-move}
 use Rattle.filters.proofs.Sweep.{near-mono}
 
 -- layer by layer: it only strikes, and reads the layers alone
@@ -31,25 +31,21 @@ module _ (G : Graph) (lay : ℕ → ℕ) where
   layers-only zero L = refl
   layers-only (suc m) L = rw (layers-only m L) refl
 
-module _ (G : Graph) (lay : ℕ → ℕ) (law : Layers G lay) where
+module _ (G : Graph) (lay : ℕ → ℕ) (L : Set) (law : Layers G lay L) (c : ℕ → ℕ) (p : Clique G 0 L c) where
   open Graph G using (n, k, cls, adj)
 
-  layers-keep : (m : ℕ) (L : Set) (c : ℕ → ℕ) → m ≤ k → Clique G 0 L c → Clique G 0 (preTo G lay m L) c
+  layers-keep : (m : ℕ) → m ≤ k → Clique G 0 (preTo G lay m L) c
   unfolding preTo near
-  layers-keep zero L c l p = p
-  layers-keep (suc m) L c l p =
-      let q = layers-keep m L c (omega arith) p in
-      let h = hits G lay law L c (clique-any G L c p) m l in
+  layers-keep zero l = p
+  layers-keep (suc m) l =
+      let q = layers-keep m (omega arith) in
+      let h = hits G lay L law c (clique-any G L c p) m l in
       clique-move G 0 (preTo G lay m L) _ c q (λ j a b. meet-in (preTo G lay m L) _ (c j) (q .at j a b .live)
       (bool (eqb (lay (c j)) m) (λ e. or-l _ e) (λ e. or-r (eqb (lay (c j)) m)
       (any-in n _ (c (h .0)) (q .at (h .0) (omega arith) (h .1) .lt)
       (and-in (q .at (h .0) (omega arith) (h .1) .live) (and-in (eq-eqb _ _ (h .2))
       (q .joined j (h .0) a b (omega arith) (h .1)
       (λ i. clash (eqb (lay (c j)) m) (eq-eqb _ _ (subst (λ w. lay (c w) ≡ m) (sym i) (h .2))) e))))))))
-
-  -- a k-clique has a vertex in each layer and in each class
-  none-empty : (L : Set) (c : ℕ → ℕ) → Clique G 0 L c → (isOpen (layered G lay) 0 L && isOpen G 0 L) ≡ true
-  none-empty L c p = and-in (layers-open G lay law L c (clique-any G L c p)) (clique-open G 0 L c p)
 
 -- it leaves no more of less
 module _ (G : Graph) (lay : ℕ → ℕ) where
@@ -74,7 +70,8 @@ unfolding preFilter
 pre-filter-promise = record {
   by-layers = λ G lay L. layers-only G lay (G .k) L;
   strikes = λ G lay L. layers-strike G lay (G .k) L;
-  keeps = λ G lay law L c p. layers-keep G lay law (G .k) L c (omega arith) p;
+  keeps = λ G lay L law c p. layers-keep G lay L law c p (G .k) (omega arith);
   refines = λ G lay L M s. layers-mono G lay (G .k) L M s;
-  empty = λ G lay law L e c p. clash _ (none-empty G lay law _ c (layers-keep G lay law (G .k) L c (omega arith) p)) e;
+  empty = λ G lay L law e c p. clash _ (none-empty G lay _ (layers-less (layers-strike G lay (G .k) L) law) c
+      (layers-keep G lay L law c p (G .k) (omega arith))) e;
 }

@@ -237,8 +237,7 @@ module _ {G : Graph} {d : ℕ} {place : Place} {p : List ℕ} (N : Node G d plac
   swept-all {own} {kept} {e} a b W =
       let q : e ≡ G .k = omega (arith, N .held .classes) in
       W .live ∙ ap (push G d (sweep G d (ownRow place p)) (ownRow place p)) q
-      ∙ push-all G d (ownRow place p) (λ u h. let r = N .live u h .0 in
-      let f = N .held .few u (omega (arith, N .held .size)) in omega (arith, N .held .classes))
+      ∙ push-all G d (ownRow place p) (λ u h. N .live u h .2)
 
 -- the loop of `sweep`
 

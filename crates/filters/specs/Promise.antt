@@ -1,9 +1,9 @@
 -- A filter, and all that the search relies on of it.
 use mathlib.Core.Path.{_≡_}
-use mathlib.Core.Bool.{true, false, _&&_}
+use mathlib.Core.Bool.{true, false}
 use Prim.Native.Nat.{ℕ}
 use Rattle.sets.specs.Sets.{Set, _⊆_}
-use Rattle.cliques.specs.Graph.{Graph, isOpen, Clique, layered, Layers}
+use Rattle.cliques.specs.Graph.{Graph, isOpen, Clique, layered, noneEmpty, Layers}
 
 -- a filter takes the depth and the live set, and gives the filtered live set
 abbrev pub Filter : Type 0
@@ -25,8 +25,8 @@ pub record Promise (G : Graph) (F : Filter) : Type 0 where
 pub record PrePromise (F : Graph → (ℕ → ℕ) → Set → Set) : Type 0 where
   pub by-layers : (G : Graph) (lay : ℕ → ℕ) (L : Set) → F (layered G lay) lay L ≡ F G lay L
   pub strikes : (G : Graph) (lay : ℕ → ℕ) (L : Set) → F G lay L ⊆ L
-  pub keeps : (G : Graph) (lay : ℕ → ℕ) → Layers G lay → (L : Set) (c : ℕ → ℕ) → Clique G 0 L c
+  pub keeps : (G : Graph) (lay : ℕ → ℕ) (L : Set) → Layers G lay L → (c : ℕ → ℕ) → Clique G 0 L c
       → Clique G 0 (F G lay L) c
   pub refines : (G : Graph) (lay : ℕ → ℕ) (L M : Set) → L ⊆ M → F G lay L ⊆ F G lay M
-  pub empty : (G : Graph) (lay : ℕ → ℕ) → Layers G lay → (L : Set)
-      → (isOpen (layered G lay) 0 (F G lay L) && isOpen G 0 (F G lay L)) ≡ false → (c : ℕ → ℕ) → Clique G 0 L c → ⊥
+  pub empty : (G : Graph) (lay : ℕ → ℕ) (L : Set) → Layers G lay L → noneEmpty G lay (F G lay L) ≡ false
+      → (c : ℕ → ℕ) → Clique G 0 L c → ⊥

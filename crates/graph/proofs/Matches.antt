@@ -1,7 +1,7 @@
 -- Demand 2: the k-cliques of the graph and the assignments that keep every rule match one to one, and the check says
 -- yes to exactly these.
 use mathlib.Core.Path.{_≡_, refl, sym, ap, ap₂, subst, _∙_}
-use mathlib.Core.Bool.{Bool, true, false, _&&_, _||_}
+use mathlib.Core.Bool.{Bool, true, false, not, _&&_, _||_}
 use mathlib.Core.List.{List}
 use Prim.Native.Nat.{ℕ, zero, suc, _+_, _-_, _≤_, _<_}
 use native.Mathlib.Decide.{decLt}
@@ -11,27 +11,28 @@ use lib.ListN.{length}
 use borrow.Author.Tests.{eqb-true, eq-eqb, ne-eqb, lt-ltb, ltb-true, leb-true, le-leb, lt-leb}
 use Rattle.sets.specs.Below.{all, any, first}
 use Rattle.sets.specs.Sets.{whole}
-use Rattle.sets.proofs.Tests.{clash, bool, is-false, and-l, and-r, and-in, or-l, or-r}
+use Rattle.sets.proofs.Tests.{clash, bool, is-false, and-l, and-r, and-in, or-l, or-r, not-in, not-out}
 use Rattle.sets.proofs.Below.{all-in, all-out, all-same, any-in, first-lt, first-is, first-found}
+use Rattle.channels.specs.Channels.{channelsOk, onAir}
 use Rattle.sheet_rows.specs.Rows.{linkFirst, linkCount, freq}
 use Rattle.sheet.specs.Sheet.{kOf, nOf, qOf, tOf, freqPart, rulePart, pairPart, mostKHz, freqOk, linkFreqsOk}
 use Rattle.sheet.specs.Sheet.{freqsOk}
 use Rattle.sheet.specs.Refusal.{passing, refusal}
 use Rattle.sheet.proofs.Accepted.{accepted, refusal-most}
-use Rattle.rules.specs.Job.{Job}
+use Rattle.rules.specs.Job.{Job, jobOf, struck, unstruck}
 use Rattle.rules.specs.Layers.{layerOf, InLink}
 use Rattle.rules.specs.Pairs.{joins}
 use Rattle.rules.specs.Parts.{Parts}
-use Rattle.rules.specs.Plans.{placeOf, hasFreq, vertexOf, inLists, pairKept, linkKept, keeps, cellsOf, keepsJob}
-use Rattle.rules.specs.Plans.{yesNo, checked}
+use Rattle.rules.specs.Plans.{placeOf, hasFreq, vertexOf, inLists, pairKept, linkKept, keeps, cellsOf, keepsSheet}
+use Rattle.rules.specs.Plans.{clear, keepsJob, yesNo, checked}
 use Rattle.rules.proofs.Laws.{layer-of, layer-in, in-link-lt, vertex-in, listed-at, parts-of}
 use Rattle.rules.proofs.Pairing.{joins-turned}
-use Rattle.cliques.specs.Graph.{Graph, Clique}
+use Rattle.cliques.specs.Graph.{Graph, Clique, Layers}
 use Rattle.cliques.specs.Listing.{byLayer}
 use Rattle.cliques.proofs.Listing.{clique-any, by-layer-clique, by-layer-at}
-use Rattle.graph.specs.Graph.{adjacent, layer, graphOf}
-use Rattle.graph.specs.Matches.{KeepsEveryRule, IsClique, vertices, Matches, Demand2}
-use Rattle.graph.proofs.Graph.{adjacent-in, adjacent-out, layers-of}
+use Rattle.graph.specs.Graph.{adjacent, linkOf, graphOf}
+use Rattle.graph.specs.Matches.{KeepsEveryRule, IsClique, vertices, Matches, MayCheck, Demand2}
+use Rattle.graph.proofs.Graph.{adjacent-in, adjacent-out, unstruck-in, unstruck-out, edge-in, edge-out, links-of}
 
 module _ {sheet fs rs ps : List ℕ} {k n q t : ℕ} (P : Parts sheet fs rs ps k n q t) where
   -- the frequencies of a link rise
@@ -168,52 +169,89 @@ module _ (job : Job) (ok : refusal (job .sheet) ≡ 0) where
   abbrev s : List ℕ
   s = job .sheet
 
+  abbrev byLink : Graph
+  byLink = graphOf job (linkOf job)
+
   P : Parts s (freqPart s) (rulePart s) (pairPart s) (kOf s) (nOf s) (qOf s) (tOf s)
   P = parts-of s (accepted s ok)
 
-  -- the vertices of a rule-keeping assignment, listed by layer
-  pub vertices-clique : (f : ℕ → ℕ) → KeepsEveryRule job f
-      → Clique (graphOf job (layer job)) 0 (whole (nOf s)) (vertices job f)
-  unfolding keepsJob
-  vertices-clique f K = keeps-clique P f K
+  -- a clique listed by link is one of the sheet, and no channel on air covers its frequencies
+  module _ {c : ℕ → ℕ} (p : Clique (graphOf job (linkOf job)) 0 (unstruck job) c) where
+    on-sheet : Clique (graphOf (jobOf s) (linkOf job)) 0 (whole (nOf s)) c
+    unfolding whole
+    on-sheet = record {
+      at = λ j a b. let x = p .at j a b in record { lt = x .lt; live = lt-ltb (c j) (nOf s) (x .lt); cl = x .cl };
+      joined = λ i j a h b g ne. edge-out job (c i) (c j) (p .joined i j a h b g ne) .there;
+    }
 
-  any-order : (c : ℕ → ℕ) → Clique (graphOf job (layer job)) 0 (whole (nOf s)) c → IsClique job c
-  any-order c p = clique-any (graphOf job (layer job)) (whole (nOf s)) c p
+    all-clear : all (kOf s) (clear (job .channels) (λ l. freq (freqPart s) (c l))) ≡ true
+    unfolding clear
+    all-clear = all-in (kOf s) _ (λ l h. not-in (unstruck-out job (c l) (p .at l (omega arith) h .live) .0))
+
+  module _ (f : ℕ → ℕ) (K : KeepsEveryRule job f) where
+    kept-sheet : keeps s (freqPart s) (rulePart s) (pairPart s) (kOf s) (qOf s) f ≡ true
+    unfolding keepsJob keepsSheet
+    kept-sheet = and-r (all (kOf s) (clear (job .channels) f)) _ K
+
+    -- the vertex of a frequency that no channel on air covers is not struck
+    kept-clear : (l : ℕ) → l < kOf s → struck job (vertices job f l) ≡ false
+    unfolding keepsJob clear
+    kept-clear l h = ap (onAir (job .channels)) (back-there P f kept-sheet l h)
+        ∙ not-out (onAir (job .channels) (f l))
+        (all-out (kOf s) (clear (job .channels) f) (and-l (all (kOf s) (clear (job .channels) f)) _ K) l h)
+
+    -- the vertices of a rule-keeping assignment, listed by link
+    pub vertices-clique : Clique (graphOf job (linkOf job)) 0 (unstruck job) (vertices job f)
+    vertices-clique = let p = keeps-clique P f kept-sheet in record {
+      at = λ j a b. let x = p .at j a b in
+          record { lt = x .lt; live = unstruck-in job (vertices job f j) (kept-clear j b) (x .lt); cl = x .cl };
+      joined = λ i j a h b g ne. edge-in job (vertices job f i) (vertices job f j) (kept-clear i h) (kept-clear j g)
+          (p .joined i j a h b g ne);
+    }
+
+  any-order : (c : ℕ → ℕ) → Clique (graphOf job (linkOf job)) 0 (unstruck job) c → IsClique job c
+  any-order c p = clique-any byLink (unstruck job) c p
 
   -- the vertices of a clique's assignment are the clique's
-  pub vertices-same : (c : ℕ → ℕ) → Clique (graphOf job (layer job)) 0 (whole (nOf s)) c → (l : ℕ) → l < kOf s
+  pub vertices-same : (c : ℕ → ℕ) → Clique (graphOf job (linkOf job)) 0 (unstruck job) c → (l : ℕ) → l < kOf s
       → vertices job (λ l. freq (freqPart s) (c l)) l ≡ c l
-  vertices-same c p l h = there-back P c p l h
+  vertices-same c p l h = there-back P c (on-sheet p) l h
+
+  -- only the first k entries of an assignment are read
+  pub keeps-same-job : (f g : ℕ → ℕ) → ((l : ℕ) → l < kOf s → f l ≡ g l) → keepsJob job f ≡ keepsJob job g
+  unfolding keepsJob keepsSheet clear
+  keeps-same-job f g h = ap₂ (λ a b. a && b)
+      (all-same (kOf s) _ _ (λ l i. ap (λ x. not (onAir (job .channels) x)) (h l i))) (keeps-same P f g h)
 
   pub keeps-first-k : (f g : ℕ → ℕ) → ((l : ℕ) → l < kOf s → f l ≡ g l) → KeepsEveryRule job f → KeepsEveryRule job g
-  unfolding keepsJob
-  keeps-first-k f g h K = sym (keeps-same P f g h) ∙ K
+  keeps-first-k f g h K = sym (keeps-same-job f g h) ∙ K
 
   pub matches : Matches job
-  unfolding keepsJob
+  unfolding keepsJob keepsSheet
   matches = record {
-    there = λ c p. clique-keeps P (by c) (listed c p);
+    there = λ c p. let q = listed c p in and-in (all-clear q) (clique-keeps P (by c) (on-sheet q));
     back = λ f K. any-order (vertices job f) (vertices-clique f K);
     there-back = λ c p j l.
-        let m = layers-of job ok (layer job) .few (c j) (p .lt j l) in
-        there-back P (by c) (listed c p) (layer job (c j)) m
-        ∙ by-layer-at (graphOf job (layer job)) (layer job) (layers-of job ok (layer job)) (whole (nOf s)) c p j l;
+        let m = law .few (c j) (p .lt j l) (p .live j l) in
+        there-back P (by c) (on-sheet (listed c p)) (linkOf job (c j)) m
+        ∙ by-layer-at byLink (linkOf job) (unstruck job) law c p j l;
     back-there = λ f K l h.
         let p = any-order (vertices job f) (vertices-clique f K) in
-        let e = by-layer-at (graphOf job (layer job)) (layer job) (layers-of job ok (layer job)) (whole (nOf s))
-        (vertices job f) p l h in
+        let e = by-layer-at byLink (linkOf job) (unstruck job) law (vertices job f) p l h in
         let q = vertices-clique f K .at l (omega arith) h .cl in
-        ap (freq (freqPart s)) (subst (λ m. byLayer (kOf s) (layer job) (vertices job f) m ≡ vertices job f l) q e)
-        ∙ back-there P f K l h;
+        ap (freq (freqPart s)) (subst (λ m. byLayer (kOf s) (linkOf job) (vertices job f) m ≡ vertices job f l) q e)
+        ∙ back-there P f (kept-sheet f K) l h;
   }
     where
-      by : (ℕ → ℕ) → ℕ → ℕ
-      by c = byLayer (kOf s) (layer job) c
+      law : Layers (graphOf job (linkOf job)) (linkOf job) (unstruck job)
+      law = links-of job (accepted s ok) (linkOf job)
 
-      listed : (c : ℕ → ℕ) → IsClique job c → Clique (graphOf job (layer job)) 0 (whole (nOf s))
-          (byLayer (kOf s) (layer job) c)
-      listed c p = by-layer-clique (graphOf job (layer job)) (layer job) (layers-of job ok (layer job)) (whole (nOf s))
-          c p
+      by : (ℕ → ℕ) → ℕ → ℕ
+      by c = byLayer (kOf s) (linkOf job) c
+
+      listed : (c : ℕ → ℕ) → IsClique job c → Clique (graphOf job (linkOf job)) 0 (unstruck job)
+          (byLayer (kOf s) (linkOf job) c)
+      listed c p = by-layer-clique byLink (linkOf job) (unstruck job) law c p
 
 -- the check
 
@@ -221,27 +259,36 @@ yes-no : (b : Bool) → yesNo b ≡ 100 → b ≡ true
 yes-no true h = refl
 yes-no false h = absurd (omega arith)
 
-check-only : (a b x : Bool) (r : ℕ) → r ≤ 16 → (passing a r λ _. passing b 10 λ _. yesNo x) ≡ 100
-    → (a ≡ true) × (b ≡ true) × (x ≡ true)
-check-only true true x r l h = (refl, refl, yes-no x h)
-check-only true false x r l h = absurd (omega arith)
-check-only false b x r l h = absurd (omega arith)
+check-only : (a b c x : Bool) (r : ℕ) → r ≤ 16
+    → (passing a r λ _. passing b 10 λ _. passing c 17 λ _. yesNo x) ≡ 100
+    → (a ≡ true) × (b ≡ true) × (c ≡ true) × (x ≡ true)
+check-only true true true x r l h = (refl, refl, refl, yes-no x h)
+check-only true true false x r l h = absurd (omega arith)
+check-only true false c x r l h = absurd (omega arith)
+check-only false b c x r l h = absurd (omega arith)
 
 module _ (job : Job) (cells : List ℕ) where
   abbrev sheet : List ℕ
   sheet = job .sheet
 
-  says : checked job cells ≡ 100 → (refusal sheet ≡ 0) × (kOf sheet ≤ length cells) × KeepsEveryRule job (cellsOf cells)
+  says : checked job cells ≡ 100 → MayCheck job cells × KeepsEveryRule job (cellsOf cells)
   unfolding checked
   says h =
       let a = eqb (refusal sheet) 0 in
       let b = leb (kOf sheet) (length cells) in
-      let o = check-only a b (keepsJob job (cellsOf cells)) (refusal sheet) (refusal-most sheet) h in
-      (eqb-true (refusal sheet) 0 (o .0), leb-true (kOf sheet) (length cells) (o .1), o .2)
+      let c = channelsOk (job .channels) in
+      let o = check-only a b c (keepsJob job (cellsOf cells)) (refusal sheet) (refusal-most sheet) h in (
+        record {
+          sheet = eqb-true (refusal sheet) 0 (o .0);
+          enough = leb-true (kOf sheet) (length cells) (o .1);
+          channels = o .2;
+        },
+        o .3,
+      )
 
-  told : refusal sheet ≡ 0 → kOf sheet ≤ length cells → KeepsEveryRule job (cellsOf cells) → checked job cells ≡ 100
+  told : MayCheck job cells → KeepsEveryRule job (cellsOf cells) → checked job cells ≡ 100
   unfolding checked
-  told a b c = rw (a, le-leb (kOf sheet) (length cells) b, c) refl
+  told m k = rw (m .sheet, le-leb (kOf sheet) (length cells) (m .enough), m .channels, k) refl
 
 pub demand2 : Demand2
 demand2 = record { matches = matches; check = λ job cells. record { only = says job cells; all = told job cells } }

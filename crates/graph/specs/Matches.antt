@@ -4,49 +4,53 @@ use mathlib.Core.Bool.{true}
 use mathlib.Core.List.{List}
 use Prim.Native.Nat.{ℕ, _≤_, _<_}
 use lib.ListN.{length}
-use Rattle.sets.specs.Sets.{whole}
 use Rattle.sheet_rows.specs.Rows.{freq}
-use Rattle.sheet.specs.Sheet.{kOf, nOf, freqPart}
+use Rattle.channels.specs.Channels.{channelsOk}
+use Rattle.sheet.specs.Sheet.{kOf, freqPart}
 use Rattle.sheet.specs.Refusal.{refusal}
-use Rattle.rules.specs.Job.{Job}
+use Rattle.rules.specs.Job.{Job, unstruck}
 use Rattle.rules.specs.Plans.{vertexOf, cellsOf, keepsJob, checked}
 use Rattle.cliques.specs.Graph.{KClique}
 use Rattle.cliques.specs.Listing.{byLayer}
-use Rattle.graph.specs.Graph.{layer, graphOf}
+use Rattle.graph.specs.Graph.{linkOf, graphOf}
 
 -- the assignment f, a frequency for each link, keeps every rule
 abbrev pub KeepsEveryRule : Job → (ℕ → ℕ) → Type 0
 KeepsEveryRule job f = keepsJob job f ≡ true
 
--- c lists the vertices of a k-clique of the job's graph
+-- c lists the vertices of a k-clique of the job's graph, none of them struck
 abbrev pub IsClique : Job → (ℕ → ℕ) → Type 0
-IsClique job c = KClique (graphOf job (layer job)) (whole (nOf (job .sheet))) c
+IsClique job c = KClique (graphOf job (linkOf job)) (unstruck job) c
 
--- the assignment of a k-clique: for each link the frequency of its vertex in the link's layer
+-- the assignment of a k-clique: for each link the frequency of its vertex
 abbrev pub assignment : Job → (ℕ → ℕ) → ℕ → ℕ
-assignment job c l = freq (freqPart (job .sheet)) (byLayer (kOf (job .sheet)) (layer job) c l)
+assignment job c l = freq (freqPart (job .sheet)) (byLayer (kOf (job .sheet)) (linkOf job) c l)
 
 -- the k-clique of an assignment: for each link the vertex of its frequency
 abbrev pub vertices : Job → (ℕ → ℕ) → ℕ → ℕ
 vertices job f l = vertexOf (job .sheet) (freqPart (job .sheet)) l (f l)
 
 -- "its k-cliques and the rule-keeping assignments match one to one": the two maps, each the other's inverse. A k-clique
--- is the set of its vertices: the clique of c's assignment has each vertex of c, in the layer of that vertex
+-- is the set of its vertices: the clique of c's assignment has each vertex of c, for the link of that vertex
 pub record Matches (job : Job) : Type 0 where
   pub there : (c : ℕ → ℕ) → IsClique job c → KeepsEveryRule job (assignment job c)
   pub back : (f : ℕ → ℕ) → KeepsEveryRule job f → IsClique job (vertices job f)
   pub there-back : (c : ℕ → ℕ) → IsClique job c → (j : ℕ) → j < kOf (job .sheet)
-      → vertices job (assignment job c) (layer job (c j)) ≡ c j
+      → vertices job (assignment job c) (linkOf job (c j)) ≡ c j
   pub back-there : (f : ℕ → ℕ) → KeepsEveryRule job f → (l : ℕ) → l < kOf (job .sheet)
       → assignment job (vertices job f) l ≡ f l
 
--- "the plan check says yes to exactly these": to the cells of an accepted job, one at least for each link, that keep
--- every rule
+-- the check refuses neither sheet, cells nor channels: the sheet is accepted, there is a cell at least for each link,
+-- and the list may be lent
+pub record MayCheck (job : Job) (cells : List ℕ) : Type 0 where
+  pub sheet : refusal (job .sheet) ≡ 0
+  pub enough : kOf (job .sheet) ≤ length cells
+  pub channels : channelsOk (job .channels) ≡ true
+
+-- "the plan check says yes to exactly these": to cells that it does not refuse and that keep every rule
 pub record YesToThese (job : Job) (cells : List ℕ) : Type 0 where
-  pub only : checked job cells ≡ 100
-      → (refusal (job .sheet) ≡ 0) × (kOf (job .sheet) ≤ length cells) × KeepsEveryRule job (cellsOf cells)
-  pub all : refusal (job .sheet) ≡ 0 → kOf (job .sheet) ≤ length cells → KeepsEveryRule job (cellsOf cells)
-      → checked job cells ≡ 100
+  pub only : checked job cells ≡ 100 → MayCheck job cells × KeepsEveryRule job (cellsOf cells)
+  pub all : MayCheck job cells → KeepsEveryRule job (cellsOf cells) → checked job cells ≡ 100
 
 -- demand 2 of the definitions
 pub record Demand2 : Type 0 where

@@ -5,6 +5,7 @@ use Prim.Native.Nat.{ℕ, _≤_}
 use lib.Dec.{eqb, ltb, leb, lit<}
 use borrow.Author.Tests.{eqb-true, eq-eqb, leb-true}
 use Rattle.sets.proofs.Tests.{clash, and-l, and-r}
+use Rattle.channels.specs.Channels.{channelsOk}
 use Rattle.sheet.specs.Sheet.{kOf}
 use Rattle.sheet.specs.Refusal.{refusal, passing}
 use Rattle.sheet.proofs.Causes.{passed, unless-zero}
@@ -19,6 +20,7 @@ pub record Call (job : Job) (x : Setting) (m w : ℕ) : Type 0 where
   pub setting : settingOk x ≡ true
   pub cells : kOf (job .sheet) ≤ m
   pub work : workWords ≤ w
+  pub channels : channelsOk (job .channels) ≡ true
   pub list : listOk job x ≡ true
 
 pub call-accepted : (job : Job) (x : Setting) (m w : ℕ) → callRefusal job x m w ≡ 0 → Call job x m w
@@ -28,12 +30,14 @@ call-accepted job x m w e =
     let b = passed (settingOk x) 9 _ (lit< tt) (a .1) in
     let c = passed (leb (kOf (job .sheet)) m) 10 _ (lit< tt) (b .1) in
     let d = passed (leb workWords w) 11 _ (lit< tt) (c .1) in
+    let f = passed (channelsOk (job .channels)) 17 _ (lit< tt) (d .1) in
     record {
       sheet = a .0;
       setting = b .0;
       cells = leb-true (kOf (job .sheet)) m (c .0);
       work = leb-true workWords w (d .0);
-      list = unless-zero (listOk job x) 12 (lit< tt) (d .1);
+      channels = f .0;
+      list = unless-zero (listOk job x) 12 (lit< tt) (f .1);
     }
   where
     first-cause : (b : Bool) → eqb (refusal (job .sheet)) 0 ≡ b

@@ -1,10 +1,11 @@
--- No refusal has a number above 16; so the call of a plan that was found was accepted.
+-- No refusal has a number above 17; so the call of a plan that was found was accepted.
 use mathlib.Core.Path.{_≡_, refl, ap}
 use mathlib.Core.Bool.{Bool, true, false}
 use Prim.Native.Nat.{ℕ, _≤_}
 use native.Mathlib.Omega.{arith}
 use lib.Dec.{eqb, leb}
 use borrow.Author.Tests.{eqb-true, eqb-false}
+use Rattle.channels.specs.Channels.{channelsOk}
 use Rattle.sheet.specs.Sheet.{kOf}
 use Rattle.sheet.specs.Refusal.{refusal}
 use Rattle.sheet.proofs.Causes.{passing-most, unless-most}
@@ -17,14 +18,16 @@ use Rattle.planner.specs.Outcome.{outcome, callRefusal, settingCause}
 use Rattle.planner.proofs.Outcomes.{outcome-refused}
 
 module _ (job : Job) (x : Setting) (m w : ℕ) where
-  pub cause-most : callRefusal job x m w ≤ 16
+  pub cause-most : callRefusal job x m w ≤ 17
   unfolding callRefusal settingCause
   cause-most =
-      passing-most (eqb (refusal (job .sheet)) 0) (refusal (job .sheet)) 16 _ (refusal-most (job .sheet))
-      (passing-most (settingOk x) 9 16 _ (omega arith)
-      (passing-most (leb (kOf (job .sheet)) m) 10 16 _ (omega arith)
-      (passing-most (leb workWords w) 11 16 _ (omega arith)
-      (unless-most (listOk job x) 12 16 (omega arith)))))
+      let r = refusal-most (job .sheet) in
+      passing-most (eqb (refusal (job .sheet)) 0) (refusal (job .sheet)) 17 _ (omega arith)
+      (passing-most (settingOk x) 9 17 _ (omega arith)
+      (passing-most (leb (kOf (job .sheet)) m) 10 17 _ (omega arith)
+      (passing-most (leb workWords w) 11 17 _ (omega arith)
+      (passing-most (channelsOk (job .channels)) 17 17 _ (omega arith)
+      (unless-most (listOk job x) 12 17 (omega arith))))))
 
   pub found-accepted : outcome job x m w .answer ≡ 100 → callRefusal job x m w ≡ 0
   found-accepted e = go (eqb (callRefusal job x m w) 0) refl

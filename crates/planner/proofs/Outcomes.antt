@@ -6,13 +6,14 @@ use Prim.Native.Nat.{ℕ, _≤_, _<_}
 use native.Mathlib.Omega.{arith}
 use lib.ListN.{length}
 use borrow.Author.Tests.{ne-eqb, le-leb, lt-leb}
+use Rattle.channels.specs.Channels.{channelsOk}
 use Rattle.sheet.specs.Sheet.{kOf}
 use Rattle.sheet.specs.Refusal.{numberOf, refusal, unless}
 use Rattle.sheet.specs.declared.Cause.{Cause}
 use Rattle.sheet.specs.declared.Reading.{Reading}
 use Rattle.sheet.specs.declared.Reading.the-variants.{Refused}
 use Rattle.sheet.proofs.Causes.{cause-some}
-use Rattle.rules.specs.Job.{Job, jobOf}
+use Rattle.rules.specs.Job.{Job}
 use Rattle.search.specs.Limit.{answer}
 use Rattle.zeros.specs.Zeros.{zeros}
 use Rattle.setting.specs.Setting.{Setting, settingOk}
@@ -52,11 +53,16 @@ module _ (job : Job) (x : Setting) (m w : ℕ) where
   unfolding settingCause
   cause-11 e f g h = setting-cause e ∙ rw (f, le-leb (kOf (job .sheet)) m g, lt-leb workWords w h) refl
 
-  -- past cause 11 the caller's list decides
-  pub cause-12 : refusal (job .sheet) ≡ 0 → settingOk x ≡ true → kOf (job .sheet) ≤ m → workWords ≤ w
-      → callRefusal job x m w ≡ unless (listOk job x) 12
+  pub cause-17 : refusal (job .sheet) ≡ 0 → settingOk x ≡ true → kOf (job .sheet) ≤ m → workWords ≤ w
+      → channelsOk (job .channels) ≡ false → callRefusal job x m w ≡ 17
   unfolding settingCause
-  cause-12 e f g h = setting-cause e ∙ rw (f, le-leb (kOf (job .sheet)) m g, le-leb workWords w h) refl
+  cause-17 e f g h c = setting-cause e ∙ rw (f, le-leb (kOf (job .sheet)) m g, le-leb workWords w h, c) refl
+
+  -- past cause 17 the caller's list decides
+  pub cause-12 : refusal (job .sheet) ≡ 0 → settingOk x ≡ true → kOf (job .sheet) ≤ m → workWords ≤ w
+      → channelsOk (job .channels) ≡ true → callRefusal job x m w ≡ unless (listOk job x) 12
+  unfolding settingCause
+  cause-12 e f g h c = setting-cause e ∙ rw (f, le-leb (kOf (job .sheet)) m g, le-leb workWords w h, c) refl
 
   pub outcome-refused : (callRefusal job x m w ≡ 0 → ⊥) → outcome job x m w ≡ refused (callRefusal job x m w) m
   unfolding outcome
@@ -91,16 +97,16 @@ module _ (job : Job) (x : Setting) (m w : ℕ) where
       let l = cause-some cause in
       gives-refused (BadSheet cause) (refusal (job .sheet)) (sheet-cause (λ i. omega arith)) (omega arith) n y z
 
--- a call that has passed causes 1 to 11, up to the caller's list
-module _ {s : List ℕ} {x : Setting} {built chosen : ℕ} {cells : List ℕ} {w : ℕ} (R : Ready s x built chosen cells w)
+-- a call that has passed causes 1 to 11, 16 and 17, up to the caller's list
+module _ {job : Job} {x : Setting} {built chosen : ℕ} {cells : List ℕ} {w : ℕ} (R : Ready job x built chosen cells w)
   where
-    pub ready-cause : callRefusal (jobOf s) x (length cells) w ≡ unless (listOk (jobOf s) x) 12
-    ready-cause = cause-12 (jobOf s) x (length cells) w (R .sheet) (R .setting) (R .enough) (R .words)
+    pub ready-cause : callRefusal job x (length cells) w ≡ unless (listOk job x) 12
+    ready-cause = cause-12 job x (length cells) w (R .sheet) (R .setting) (R .enough) (R .words) (R .channels)
 
-    pub ready-accepted : listOk (jobOf s) x ≡ true → callRefusal (jobOf s) x (length cells) w ≡ 0
+    pub ready-accepted : listOk job x ≡ true → callRefusal job x (length cells) w ≡ 0
     unfolding unless
     ready-accepted e = ready-cause ∙ rw e refl
 
-    pub ready-refused : listOk (jobOf s) x ≡ false → callRefusal (jobOf s) x (length cells) w ≡ 12
+    pub ready-refused : listOk job x ≡ false → callRefusal job x (length cells) w ≡ 12
     unfolding unless
     ready-refused e = ready-cause ∙ rw e refl

@@ -2,26 +2,25 @@
 use mathlib.Core.Path.{_≡_, refl, sym, ap, subst, _∙_}
 use mathlib.Core.Bool.{Bool, true, false, not}
 use mathlib.Core.List.{List}
-use Prim.Native.Nat.{ℕ, _+_, _-_, _*_, _≤_, _<_}
+use Prim.Native.Nat.{ℕ, _-_, _≤_, _<_}
 use native.Mathlib.Omega.{arith}
 use lib.Dec.{eqb, leb, ltb, lit<}
 use lib.ListN.{length}
 use borrow.Author.Tests.{ltb-true, not-true, not-false}
 use Rattle.sets.specs.Below.{any}
-use Rattle.sets.specs.Sets.{Set, whole}
 use Rattle.sets.proofs.Tests.{bool, case}
 use Rattle.sets.proofs.Below.{any-same}
 use Rattle.sets.proofs.Lists.{tabulate-same}
-use Rattle.cliques.specs.Graph.{Graph, Clique}
+use Rattle.cliques.specs.Graph.{Clique}
 use Rattle.cliques.specs.Words.{withMasks, threeRows, Room}
 use Rattle.cliques.specs.declared.Place.{Place}
 use Rattle.cliques.proofs.Listing.{clique-any, by-layer-hit, by-layer-same}
 use Rattle.sheet_rows.specs.Rows.{freq}
-use Rattle.sheet.specs.Sheet.{kOf, nOf, freqPart}
+use Rattle.sheet.specs.Sheet.{kOf, freqPart}
 use Rattle.sheet.specs.Accepted.{Accepted}
-use Rattle.sheet.proofs.Accepted.{accepted}
-use Rattle.rules.specs.Job.{Job, jobOf}
-use Rattle.graph.specs.Graph.{layer, graphOf}
+use Rattle.rules.specs.Job.{Job, jobOf, unstruck}
+use Rattle.graph.specs.Graph.{linkOf, unlessStruck, layer, graphOf}
+use Rattle.graph.proofs.Graph.{links-of, layers-left}
 use Rattle.partition.specs.Partition.{classOf}
 use Rattle.search.specs.Tree.{Tree, found, noPlan}
 use Rattle.search.specs.Limit.{Answer, plan, none, stopped, answer, answerNumber}
@@ -31,15 +30,13 @@ use Rattle.search.specs.Searched.{Searched}
 use Rattle.search.specs.declared.RunOutcome.{RunOutcome}
 use Rattle.search.proofs.Tree.{All}
 use Rattle.search.proofs.Setting.{tree-good}
-use Rattle.zeros.specs.Zeros.{zeros}
 use Rattle.cells.specs.Cells.{chosenBy, cellOf, planCells, Chosen}
 use Rattle.setting.specs.Setting.{Setting}
 use Rattle.work_words.specs.Layout.{LaidOut}
-use Rattle.work_words.specs.Classes.{listOk, classesOf, graphIn}
+use Rattle.work_words.specs.Classes.{classesOf, graphIn}
 use Rattle.work_words.specs.Filled.{Filled}
-use Rattle.work_words.proofs.Classes.{graph-layers}
 use Rattle.planner.specs.Outcome.{outcomeOf, treeOf, outcome}
-use Rattle.planner.specs.Planned.{verdictNumber, Gives, Ready, Finished}
+use Rattle.planner.specs.Planned.{Gives, Ready, Finished}
 use Rattle.planner.specs.declared.Planned.{Planned}
 use Rattle.planner.specs.declared.Verdict as CallVerdict
 use Rattle.planner.proofs.Outcomes.{outcome-accepted, gives-refused, ready-accepted, ready-refused}
@@ -54,46 +51,45 @@ answer-all : (P : (ℕ → ℕ) → Type 0) (l : ℕ) (t : Tree) → All P t →
 answer-all P l (found c s) h = case (AllOf P) (leb s l) (plan c s) (stopped l) (λ e. h) (λ e. tt)
 answer-all P l (noPlan s) h = case (AllOf P) (leb s l) (none s) (stopped l) (λ e. tt) (λ e. tt)
 
-module _ {s : List ℕ} (A : Accepted s) (cls : ℕ → ℕ) where
-  abbrev G : Graph
-  G = graphOf (jobOf s) cls
+module _ (job : Job) (A : Accepted (job .sheet)) (cls : ℕ → ℕ) where
+  abbrev s : List ℕ
+  s = job .sheet
 
-  abbrev lay : ℕ → ℕ
-  lay = layer (jobOf s)
-
-  hit : (p : ℕ → ℕ) → Clique (graphOf (jobOf s) cls) 0 (whole (nOf s)) p → (l : ℕ) → l < kOf s
-      → any (kOf s) (λ j. eqb (layer (jobOf s) (p j)) l) ≡ true
-  hit p C l h = by-layer-hit G lay (graph-layers A cls) (whole (nOf s)) p (clique-any G (whole (nOf s)) p C) l h
+  hit : (p : ℕ → ℕ) → Clique (graphOf job cls) 0 (unstruck job) p → (l : ℕ) → l < kOf (job .sheet)
+      → any (kOf (job .sheet)) (λ j. eqb (linkOf job (p j)) l) ≡ true
+  hit p C l h = by-layer-hit (graphOf job cls) (linkOf job) (unstruck job) (links-of job A cls) p
+      (clique-any (graphOf job cls) (unstruck job) p C) l h
 
   -- the cells of a plan that was found list a vertex of each link
   chosen-from : (a : Answer) (c c′ : List ℕ) → answerNumber a ≡ 100
-      → AllOf (Clique (graphOf (jobOf s) cls) 0 (whole (nOf s))) a
-      → Cells 0 (kOf s) c c′ a → kOf s ≤ length c′ → Chosen s c′
+      → AllOf (Clique (graphOf job cls) 0 (unstruck job)) a
+      → Cells 0 (kOf (job .sheet)) c c′ a → kOf (job .sheet) ≤ length c′ → Chosen (job .sheet) c′
   chosen-from (plan p t) c c′ e C L long = record {
     accepted = A;
     listed = long;
     lt = λ j h. rw (L .here j (omega arith) h) (C .at j (omega arith) h .lt);
-    hit = λ l h. any-same (kOf s) (λ j. eqb (layer (jobOf s) (chosenBy c′ j)) l) (λ j. eqb (layer (jobOf s) (p j)) l)
-        (λ j i. ap (λ v. eqb (layer (jobOf s) v) l) (L .here j (omega arith) i)) ∙ hit p C l h;
+    hit = λ l h. any-same (kOf s) (λ j. eqb (linkOf job (chosenBy c′ j)) l) (λ j. eqb (linkOf job (p j)) l)
+        (λ j i. ap (λ v. eqb (linkOf job v) l) (L .here j (omega arith) i)) ∙ hit p C l h;
   }
   chosen-from (none t) c c′ e C L long = absurd (omega arith)
   chosen-from (stopped t) c c′ e C L long = absurd (omega arith)
 
   -- the cells filled by what was chosen are those of the plan
-  cells-same : (p : ℕ → ℕ) (c : List ℕ) (m : ℕ) → Clique (graphOf (jobOf s) cls) 0 (whole (nOf s)) p
-      → ((j : ℕ) → j < kOf s → chosenBy c j ≡ p j) → planCells (jobOf s) (chosenBy c) m ≡ planCells (jobOf s) p m
+  cells-same : (p : ℕ → ℕ) (c : List ℕ) (m : ℕ) → Clique (graphOf job cls) 0 (unstruck job) p
+      → ((j : ℕ) → j < kOf (job .sheet) → chosenBy c j ≡ p j)
+      → planCells (jobOf (job .sheet)) (chosenBy c) m ≡ planCells job p m
   unfolding planCells cellOf
-  cells-same p c m C h = tabulate-same m (cellOf (jobOf s) (chosenBy c)) (cellOf (jobOf s) p)
+  cells-same p c m C h = tabulate-same m (cellOf job (chosenBy c)) (cellOf job p)
       (λ l i. bool (ltb l (kOf s))
       (λ e. rw e (ap (freq (freqPart s))
-      (by-layer-same (kOf s) lay (chosenBy c) p l h (hit p C l (ltb-true l (kOf s) e)))))
+      (by-layer-same (kOf s) (linkOf job) (chosenBy c) p l h (hit p C l (ltb-true l (kOf s) e)))))
       (λ e. rw e refl))
 
   -- what was finished is what the answer says
   finished-gives : (a : Answer) (c c′ cells : List ℕ) (m : ℕ) (out : RunOutcome) (r : Planned) → Tells out a
-      → AllOf (Clique (graphOf (jobOf s) cls) 0 (whole (nOf s))) a → Cells 0 (kOf s) c c′ a
-      → Finished s c′ out m cells r
-      → Gives (outcomeOf (jobOf s) m a) r cells
+      → AllOf (Clique (graphOf job cls) 0 (unstruck job)) a → Cells 0 (kOf (job .sheet)) c c′ a
+      → Finished (job .sheet) c′ out m cells r
+      → Gives (outcomeOf job m a) r cells
   finished-gives (plan p t) c c′ cells m out r T C L F = record {
     answer = F .number ∙ T .number;
     nodes = F .nodes ∙ T .nodes;
@@ -107,53 +103,54 @@ module _ {s : List ℕ} (A : Accepted s) (cls : ℕ → ℕ) where
       record { answer = F .number ∙ T .number; nodes = F .nodes ∙ T .nodes; cells = F .other (λ h. omega arith) }
 
 -- the search of words that are filled
-module _ {s : List ℕ} {x : Setting} {place : Place} {layers : ℕ} {p p′ c c′ : List ℕ} {r : Bool} {out : RunOutcome}
-    (A : Accepted s) (links : place .k ≡ kOf s) (F : Filled (jobOf s) x place layers p r) (e : not r ≡ false)
-    (S : Searched (x .filter) place layers (x .limit) p p′ c c′ out) where
+module _ {job : Job} {x : Setting} {place : Place} {layers : ℕ} {p p′ c c′ : List ℕ} {r : Bool} {out : RunOutcome}
+    (A : Accepted (job .sheet)) (links : place .k ≡ kOf (job .sheet)) (F : Filled job x place layers p r)
+    (e : not r ≡ false) (S : Searched (x .filter) place layers (x .limit) p p′ c c′ out) where
+  -- the class of each vertex
+  abbrev cls : ℕ → ℕ
+  cls = unlessStruck job (classOf (classesOf job x))
+
   yes : r ≡ true
   yes = not-false r e
 
-  tells : Tells out (answer (x .limit) (treeOf (jobOf s) x))
+  tells : Tells out (answer (x .limit) (treeOf job x))
   unfolding treeOf
-  tells = subst (λ L. Tells out (answer (x .limit) (tree (x .filter) (graphIn (jobOf s) x) (layer (jobOf s)) L)))
-      (F .root yes)
-      (S .says (graphIn (jobOf s) x) (layer (jobOf s)) (F .by-class yes) (F .by-layer yes))
+  tells = subst (λ L. Tells out (answer (x .limit) (tree (x .filter) (graphIn job x) (layer job) L))) (F .root yes)
+      (S .says (graphIn job x) (layer job) (F .by-class yes) (F .by-layer yes))
 
-  cells-are : Cells 0 (kOf s) c c′ (answer (x .limit) (treeOf (jobOf s) x))
+  cells-are : Cells 0 (kOf (job .sheet)) c c′ (answer (x .limit) (treeOf job x))
   unfolding treeOf
   cells-are = subst (λ k. Cells 0 k c c′
-      (answer (x .limit) (tree (x .filter) (graphIn (jobOf s) x) (layer (jobOf s)) (whole (nOf s))))) links
-      (subst (λ L. Cells 0 (place .k) c c′
-      (answer (x .limit) (tree (x .filter) (graphIn (jobOf s) x) (layer (jobOf s)) L))) (F .root yes)
-      (S .cells (graphIn (jobOf s) x) (layer (jobOf s)) (F .by-class yes) (F .by-layer yes)))
+      (answer (x .limit) (tree (x .filter) (graphIn job x) (layer job) (unstruck job)))) links
+      (subst (λ L. Cells 0 (place .k) c c′ (answer (x .limit) (tree (x .filter) (graphIn job x) (layer job) L)))
+      (F .root yes) (S .cells (graphIn job x) (layer job) (F .by-class yes) (F .by-layer yes)))
 
-  good : AllOf (Clique (graphIn (jobOf s) x) 0 (whole (nOf s))) (answer (x .limit) (treeOf (jobOf s) x))
+  good : AllOf (Clique (graphIn job x) 0 (unstruck job)) (answer (x .limit) (treeOf job x))
   unfolding treeOf
-  good = answer-all (Clique (graphIn (jobOf s) x) 0 (whole (nOf s))) (x .limit)
-      (tree (x .filter) (graphIn (jobOf s) x) (layer (jobOf s)) (whole (nOf s)))
-      (tree-good (graphIn (jobOf s) x) (layer (jobOf s)) (graph-layers A (classOf (classesOf (jobOf s) x))) (x .filter)
-      (whole (nOf s)))
+  good = answer-all (Clique (graphIn job x) 0 (unstruck job)) (x .limit)
+      (tree (x .filter) (graphIn job x) (layer job) (unstruck job))
+      (tree-good (graphIn job x) (layer job) (unstruck job) (layers-left job cls (linkOf job) (links-of job A cls))
+      (x .filter))
 
-  pub search-chosen : runNumber (out .verdict) ≡ 100 → kOf s ≤ length c′ → Chosen s c′
-  search-chosen h long = chosen-from A (classOf (classesOf (jobOf s) x)) (answer (x .limit) (treeOf (jobOf s) x)) c c′
+  pub search-chosen : runNumber (out .verdict) ≡ 100 → kOf (job .sheet) ≤ length c′ → Chosen (job .sheet) c′
+  search-chosen h long = chosen-from job A cls (answer (x .limit) (treeOf job x)) c c′
       (sym (tells .number) ∙ h) good cells-are long
 
-  pub search-gives : {built chosen w : ℕ} {zeroed cells : List ℕ} {o : Planned} → Ready s x built chosen zeroed w
-      → Finished s c′ out (length zeroed) cells o → Gives (outcome (jobOf s) x (length zeroed) w) o cells
+  pub search-gives : {built chosen w : ℕ} {zeroed cells : List ℕ} {o : Planned} → Ready job x built chosen zeroed w
+      → Finished (job .sheet) c′ out (length zeroed) cells o → Gives (outcome job x (length zeroed) w) o cells
   search-gives {w = w} {zeroed} {cells} {o} R X =
-      rw (outcome-accepted (jobOf s) x (length zeroed) w (ready-accepted R (sym (F .list) ∙ yes)))
-      (finished-gives A (classOf (classesOf (jobOf s) x)) (answer (x .limit) (treeOf (jobOf s) x)) c c′ cells
-      (length zeroed) out o
+      rw (outcome-accepted job x (length zeroed) w (ready-accepted R (sym (F .list) ∙ yes)))
+      (finished-gives job A cls (answer (x .limit) (treeOf job x)) c c′ cells (length zeroed) out o
       tells good cells-are X)
 
 -- the caller's list is refused
-pub list-gives : {s : List ℕ} {x : Setting} {place : Place} {layers built chosen w : ℕ} {p cells : List ℕ} {r : Bool}
+pub list-gives : {job : Job} {x : Setting} {place : Place} {layers built chosen w : ℕ} {p cells : List ℕ} {r : Bool}
     {o : Planned}
-    → Ready s x built chosen cells w → Filled (jobOf s) x place layers p r → not r ≡ true
+    → Ready job x built chosen cells w → Filled job x place layers p r → not r ≡ true
     → o ≡ record { verdict = CallVerdict.the-variants.BadList; nodes = 0 }
-    → Gives (outcome (jobOf s) x (length cells) w) o cells
-list-gives {s} {x} {w = w} {cells = cells} {r} R F e v =
-    gives-refused (jobOf s) x (length cells) w CallVerdict.the-variants.BadList 12
+    → Gives (outcome job x (length cells) w) o cells
+list-gives {job} {x} {w = w} {cells = cells} {r} R F e v =
+    gives-refused job x (length cells) w CallVerdict.the-variants.BadList 12
     (ready-refused R (sym (F .list) ∙ not-true r e))
     (lit< tt) refl v (R .zero)
 

@@ -3,10 +3,10 @@ use mathlib.Core.Bool.{true, false}
 use mathlib.Core.List.{List}
 use Prim.Native.Nat.{ℕ}
 use lib.Dec.{leb, eqb}
-use Rattle.sets.specs.Sets.{whole}
-use Rattle.sheet.specs.Sheet.{kOf, nOf}
+use Rattle.channels.specs.Channels.{channelsOk}
+use Rattle.sheet.specs.Sheet.{kOf}
 use Rattle.sheet.specs.Refusal.{refusal, passing, unless}
-use Rattle.rules.specs.Job.{Job}
+use Rattle.rules.specs.Job.{Job, unstruck}
 use Rattle.graph.specs.Graph.{layer}
 use Rattle.search.specs.Tree.{Tree}
 use Rattle.search.specs.Setting.{tree}
@@ -17,23 +17,25 @@ use Rattle.setting.specs.Setting.{Setting, settingOk}
 use Rattle.work_words.specs.Layout.{workWords}
 use Rattle.work_words.specs.Classes.{listOk, graphIn}
 
--- the table's causes 9 to 12 in the order tested, for a call with m plan cells and w work words
+-- the table's causes 9 to 12 in the order tested, 17 "after 11, before 12", for a call with m plan cells and w work
+-- words
 unfoldable pub settingCause : Job → Setting → ℕ → ℕ → ℕ
 settingCause job x m w =
     passing (settingOk x) 9 λ _.
     passing (leb (kOf (job .sheet)) m) 10 λ _.
     passing (leb workWords w) 11 λ _.
+    passing (channelsOk (job .channels)) 17 λ _.
     unless (listOk job x) 12
 
--- causes 1 to 12 and 16: the number of the first, or 0 where the call is accepted
+-- causes 1 to 12, 16 and 17: the number of the first, or 0 where the call is accepted
 unfoldable pub callRefusal : Job → Setting → ℕ → ℕ → ℕ
 callRefusal job x m w = passing (eqb (refusal (job .sheet)) 0) (refusal (job .sheet)) λ _. settingCause job x m w
 
--- "The tree of a setting"
+-- "The tree of a setting", from the vertices that are left
 unfoldable pub treeOf : Job → Setting → Tree
-treeOf job x = tree (x .filter) (graphIn job x) (layer job) (whole (nOf (job .sheet)))
+treeOf job x = tree (x .filter) (graphIn job x) (layer job) (unstruck job)
 
--- what a call gives: a refusal number 1 to 12 or 16, 100 for found, 101 for no plan or 102 for stopped; the nodes;
+-- what a call gives: a refusal number 1 to 12, 16 or 17, 100 for found, 101 for no plan or 102 for stopped; the nodes;
 -- and every plan cell
 pub record Outcome : Type 0 where
   pub answer : ℕ

@@ -4,6 +4,7 @@ use mathlib.Core.Bool.{true}
 use mathlib.Core.List.{List}
 use Prim.Native.Nat.{ℕ, _≤_}
 use lib.ListN.{length}
+use Rattle.channels.specs.Channels.{channelsOk}
 use Rattle.sheet.specs.Sheet.{kOf, nOf}
 use Rattle.sheet.specs.Refusal.{causeNumber, refusal}
 use Rattle.rules.specs.Job.{Job, jobOf}
@@ -19,7 +20,7 @@ use Rattle.planner.specs.Outcome.{Outcome, outcome}
 use Rattle.planner.specs.declared.Planned.{Planned}
 use Rattle.planner.specs.declared.Verdict.{Verdict}
 use Rattle.planner.specs.declared.Verdict.the-variants.{Found, NoPlan, Stopped, BadSheet, BadSetting, FewCells}
-use Rattle.planner.specs.declared.Verdict.the-variants.{FewWords, BadList}
+use Rattle.planner.specs.declared.Verdict.the-variants.{FewWords, BadChannels, BadList}
 
 -- the paper's number for each verdict: "100 for found, 101 for no plan, 102 for stopped", or the cause
 abbrev pub verdictNumber : Verdict → ℕ
@@ -30,6 +31,7 @@ verdictNumber (BadSheet cause) = causeNumber cause
 verdictNumber BadSetting = 9
 verdictNumber FewCells = 10
 verdictNumber FewWords = 11
+verdictNumber BadChannels = 17
 verdictNumber BadList = 12
 
 -- the answer r and the cells that are left are those of an outcome
@@ -52,15 +54,16 @@ Checking job cells a = checkNumber a ≡ checked job cells
 abbrev pub gave : Planned → List ℕ → Outcome
 gave r cells = record { answer = verdictNumber (r .verdict); nodes = r .nodes; cells = cells }
 
--- causes 1 to 11 are passed, the cells are zero, and there is room for a class a vertex and a vertex a class
-pub record Ready (s : List ℕ) (x : Setting) (built chosen : ℕ) (cells : List ℕ) (work : ℕ) : Type 0 where
-  pub sheet : refusal s ≡ 0
+-- causes 1 to 11, 16 and 17 are passed, the cells are zero, and there is room for a class a vertex and a vertex a class
+pub record Ready (job : Job) (x : Setting) (built chosen : ℕ) (cells : List ℕ) (work : ℕ) : Type 0 where
+  pub sheet : refusal (job .sheet) ≡ 0
   pub setting : settingOk x ≡ true
-  pub enough : kOf s ≤ length cells
+  pub enough : kOf (job .sheet) ≤ length cells
   pub words : workWords ≤ work
+  pub channels : channelsOk (job .channels) ≡ true
   pub zero : cells ≡ zeros (length cells)
-  pub classes : built ≡ nOf s
-  pub vertices : chosen ≡ kOf s
+  pub classes : built ≡ nOf (job .sheet)
+  pub vertices : chosen ≡ kOf (job .sheet)
 
 -- a search's outcome was handed on: its number, its nodes and the cells, of which there are m
 pub record Finished (s chosen : List ℕ) (out : RunOutcome) (m : ℕ) (cells : List ℕ) (r : Planned) : Type 0 where

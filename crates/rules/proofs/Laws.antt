@@ -22,7 +22,7 @@ use Rattle.sheet.specs.declared.Cause.{Cause}
 use Rattle.sheet.specs.declared.Reading.{Reading}
 use Rattle.sheet.specs.declared.Reading.the-variants.{Refused}
 use Rattle.sheet.proofs.Causes.{cause-some}
-use Rattle.rules.specs.Job.{jobOf}
+use Rattle.rules.specs.Job.{jobWith}
 use Rattle.sheet.proofs.Links.{link-first, link-sum, link-in}
 use Rattle.sheet.proofs.Rules.{rule-in}
 use Rattle.rules.specs.Layers.{layerOf, InLink}
@@ -264,10 +264,10 @@ cell-taken {s} {cells} {l} t b =
     }
 
 -- a sheet that the reader refuses is refused by the check, for the same cause
-pub check-refused : (s cells : List ℕ) (r : Reading) (x : Cause) → numberOf r ≡ refusal s → r ≡ Refused x
-    → causeNumber x ≡ checked (jobOf s) cells
+pub check-refused : (s channels cells : List ℕ) (r : Reading) (x : Cause) → numberOf r ≡ refusal s → r ≡ Refused x
+    → causeNumber x ≡ checked (jobWith s channels) cells
 unfolding checked
-check-refused s cells r x h e =
+check-refused s channels cells r x h e =
     let m : refusal s ≡ causeNumber x = sym h ∙ ap numberOf e in
     let o = cause-some x in
     rw (m, ne-eqb (causeNumber x) 0 (λ z. omega arith))

@@ -7,12 +7,13 @@ mod plans;
 mod seek;
 
 ghost use mathlib.Core.Path.{_≡_};
-ghost use Rattle.rules.specs.Job.{jobOf};
+ghost use Rattle.rules.specs.Job.{jobWith};
 ghost use Rattle.rules.specs.Plans.{checked, checkNumber};
+use channels::is_channel_list;
 pub use layers::layer;
 pub use pairs::agree;
 pub use pairs::distance;
-use plans::keeps_sheet;
+use plans::keeps_job;
 use sheet::Reading;
 use sheet::cause_number;
 use sheet::check_sheet;
@@ -23,6 +24,7 @@ pub enum CheckAnswer {
     No,
     Yes,
     Few,
+    BadChannels,
     Refused(sheet::Cause),
 }
 
@@ -34,13 +36,15 @@ pub fn check_number(a: CheckAnswer) -> u32
         CheckAnswer::No => 0,
         CheckAnswer::Yes => 100,
         CheckAnswer::Few => 10,
+        CheckAnswer::BadChannels => 17,
         CheckAnswer::Refused(cause) => cause_number(cause),
     }
 }
 
-// The plan check, for any bytes and any cells: it reads the first k cells.
-pub fn check_plan(s: &[u8], cells: &[u32]) -> CheckAnswer
-    ensures { λ r. ⌜ checkNumber r ≡ checked (jobOf (now (s .entry))) (now (cells .entry)) ⌝ }
+// The plan check, for any bytes, any list of channels and any cells: it reads the first k cells.
+pub fn check_plan(s: &[u8], channels: &[u8], cells: &[u32]) -> CheckAnswer
+    ensures { λ r. ⌜ checkNumber r
+        ≡ checked (jobWith (now (s .entry)) (now (channels .entry))) (now (cells .entry)) ⌝ }
 {
     if let Reading::Refused(cause) = check_sheet(s) {
         return CheckAnswer::Refused(cause);
@@ -48,7 +52,10 @@ pub fn check_plan(s: &[u8], cells: &[u32]) -> CheckAnswer
     if cells.len() < links_of(s) {
         return CheckAnswer::Few;
     }
-    if keeps_sheet(s, cells) {
+    if !is_channel_list(channels) {
+        return CheckAnswer::BadChannels;
+    }
+    if keeps_job(s, channels, cells) {
         CheckAnswer::Yes
     } else {
         CheckAnswer::No

@@ -1,4 +1,4 @@
-// Whether cells are an assignment that keeps every rule of an accepted sheet.
+// Whether cells are an assignment that keeps every rule of an accepted sheet, on no channel on air.
 ghost use mathlib.Core.Path.{_≡_};
 ghost use mathlib.Core.Bool.{true};
 ghost use Prim.Native.Nat.{_+_, _*_, _<_, _≤_};
@@ -7,12 +7,14 @@ ghost use Rattle.sets.specs.Below.{all};
 ghost use Rattle.sheet_rows.specs.Rows.{freqBytes};
 ghost use Rattle.sheet.specs.Sheet.{kOf, qOf, rulePart};
 ghost use Rattle.sheet.specs.Accepted.{Accepted};
-ghost use Rattle.rules.specs.Job.{jobOf};
-ghost use Rattle.rules.specs.Plans.{placeOf, cellsOf, keepsJob};
+ghost use Rattle.channels.specs.Channels.{channelsOk};
+ghost use Rattle.rules.specs.Job.{jobWith};
+ghost use Rattle.rules.specs.Plans.{placeOf, cellsOf, clear, keepsSheet, keepsJob};
 ghost use Rattle.rules.specs.Asked.{Taken, Sought, inList, vertexIn, cellListed, cellsKeep, cellKeeps};
 use crate::pairs::joined;
 use crate::parts::freq_part;
 use crate::seek::seek_rule;
+use channels::is_on_air;
 use sheet::links_of;
 use sheet_rows::freq;
 use sheet_rows::link_count;
@@ -129,13 +131,40 @@ fn links_kept(s: &[u8], cells: &[u32]) -> bool
     true
 }
 
-// Whether the cells are an assignment that keeps every rule.
-pub fn keeps_sheet(s: &[u8], cells: &[u32]) -> bool
+// Whether the cells are an assignment that keeps every rule of the sheet.
+fn keeps_sheet(s: &[u8], cells: &[u32]) -> bool
     requires { ⌜ Accepted (now s) × (kOf (now s) ≤ length (now cells)) ⌝ }
-    ensures { λ r. ⌜ r ≡ keepsJob (jobOf (now (s .entry))) (cellsOf (now (cells .entry))) ⌝ }
+    ensures { λ r. ⌜ r ≡ keepsSheet (now (s .entry)) (cellsOf (now (cells .entry))) ⌝ }
 {
     if !cells_listed(s, cells) {
         return false;
     }
     links_kept(s, cells)
+}
+
+// Whether no channel on air covers one of the first cells, one for each of so many links.
+fn cells_clear(channels: &[u8], cells: &[u32], links: usize) -> bool
+    requires { ⌜ (channelsOk (now channels) ≡ true) × (links ≤ length (now cells)) ⌝ }
+    ensures { λ r. ⌜ r ≡ all links (clear (now (channels .entry)) (cellsOf (now (cells .entry)))) ⌝ }
+{
+    let mut l = 0;
+    while l < links {
+        if is_on_air(channels, wide(cells[l])) {
+            return false;
+        }
+        l += 1;
+    }
+    true
+}
+
+// Whether the cells are an assignment that keeps every rule of the job.
+pub fn keeps_job(s: &[u8], channels: &[u8], cells: &[u32]) -> bool
+    requires { ⌜ Accepted (now s) × (kOf (now s) ≤ length (now cells)) × (channelsOk (now channels) ≡ true) ⌝ }
+    ensures { λ r. ⌜ r ≡ keepsJob (jobWith (now (s .entry)) (now (channels .entry)))
+        (cellsOf (now (cells .entry))) ⌝ }
+{
+    if !cells_clear(channels, cells, links_of(s)) {
+        return false;
+    }
+    keeps_sheet(s, cells)
 }

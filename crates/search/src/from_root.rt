@@ -1,10 +1,10 @@
-// The search of a setting, from the root: "Fewer than k non-empty classes: no plan, 0 nodes", then the pre-filter as
-// switched, then the root.
+// The search of a setting, from the root: "Fewer than k non-empty classes: no plan, 0 nodes", and "A link left empty
+// gives no plan with 0 nodes"; then the pre-filter as switched, then the root.
 ghost use lib.ListN.{length};
 ghost use Rattle.cliques.specs.Words.{Room, withMasks, threeRows};
 ghost use Rattle.search.specs.Limit.{none};
 ghost use Rattle.search.specs.Walk.{Tells, Space};
-ghost use Rattle.search.specs.Searched.{Searched, PreSearched};
+ghost use Rattle.search.specs.Searched.{NoneEmpty, Searched, PreSearched};
 use crate::RunOutcome;
 use crate::RunVerdict;
 use crate::run;
@@ -20,6 +20,25 @@ fn no_nodes() -> RunOutcome
         verdict: RunVerdict::None,
         nodes: 0,
     }
+}
+
+// Whether no layer and no class of the root is empty. Each class can have a vertex where a layer has none.
+fn none_empty(part: &[u64], place: Place, layers: usize) -> bool
+    requires { ⌜ Room (threeRows place) place (length (now part))
+        × Room (threeRows place) (withMasks place layers) (length (now part)) ⌝ }
+    ensures { λ r. ⌜ NoneEmpty place layers (now (part .entry)) r ⌝ }
+{
+    let by_layers = Place {
+        w: place.w,
+        masks: layers,
+        graph: place.graph,
+        n: place.n,
+        k: place.k,
+    };
+    if !is_open(part, by_layers, 0) {
+        return false;
+    }
+    is_open(part, place, 0)
 }
 
 // The pre-filter, then the root.
@@ -66,8 +85,7 @@ pub fn search_setting(
     ensures { λ r. ⌜ Searched filters place layers limit
         (now (part .entry)) (now (part .exit)) (now (chosen .entry)) (now (chosen .exit)) r ⌝ }
 {
-    let enough_classes = is_open(part, place, 0);
-    if !enough_classes {
+    if !none_empty(part, place, layers) {
         return no_nodes();
     }
     if filters % 2 == 1 {

@@ -44,7 +44,7 @@ fn put_answer(p: Planned, sheet: &[u8], cells: &[u32], text: &mut [u8]) -> usize
     put_line(text, 0, b"refused", number)
 }
 
-// Plans a sheet in the cells and words lent, and puts the answer.
+// Plans a sheet in the cells and words lent, with no list of channels, and puts the answer.
 fn put_planned(sheet: &[u8], cells: &mut [u32], work: &mut [u64], text: &mut [u8]) -> usize
     requires { ⌜ mostBytes ≤ length (now text) ⌝ }
     ensures { λ r. ⌜ Holds (printedOf (kOf (now (sheet .entry))) (outcome (jobOf (now (sheet .entry))) programSetting
@@ -55,7 +55,7 @@ fn put_planned(sheet: &[u8], cells: &mut [u32], work: &mut [u64], text: &mut [u8
         choice: 0,
         limit: 1000000,
     };
-    let p = plan(sheet, options, b"", cells, work);
+    let p = plan(sheet, b"", options, b"", cells, work);
     put_answer(p, sheet, cells, text)
 }
 

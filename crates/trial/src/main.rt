@@ -1,21 +1,21 @@
 // The test program: the planner's calls beside the rows of its input, and beside a brute-force solver that is written
 // apart from the planner. It prints what it compared, and stops at the first difference.
-mod lines;
 mod report;
 
 use libc::STDIN_FILENO;
-use lines::row_on_sheet;
 use report::item;
 use report::number;
 use report::text;
+use trial_beside::small_sheets;
 use trial_calls::more;
-use trial_calls::small_sheets;
 use trial_parts::EQUALS;
 use trial_parts::first_bytes;
 use trial_parts::get;
+use trial_parts::kept::AIRED;
 use trial_parts::kept::AT;
 use trial_parts::kept::CALLS;
 use trial_parts::kept::CHECKS;
+use trial_parts::kept::EMPTIED;
 use trial_parts::kept::LAYERED;
 use trial_parts::kept::LIST;
 use trial_parts::kept::LISTED;
@@ -32,6 +32,7 @@ use trial_parts::put;
 use trial_parts::read;
 use trial_parts::reads_job;
 use trial_parts::times;
+use trial_rows::row_on_sheet;
 
 // The words that begin the other rows without a job, by their first bytes.
 const LISTS: usize = 108;
@@ -55,6 +56,12 @@ fn print_small(kept: &[usize]) {
     item(b"; with more than k greedy classes:", get(kept, LAYERED));
     item(b"; with a refused class list:", get(kept, REFUSED));
     text(b"\n");
+    item(b"with channels on air:", get(kept, AIRED));
+    item(b"; with a link left empty:", get(kept, EMPTIED));
+    text(b"\n");
+}
+
+fn print_trees(kept: &[usize]) {
     print_nodes(kept, 0);
     print_nodes(kept, 1);
     print_nodes(kept, 2);
@@ -67,6 +74,7 @@ fn random_row(kept: &mut [usize], m: usize) -> bool {
         return false;
     }
     print_small(&counted);
+    print_trees(&counted);
     put(kept, CALLS, get(&counted, CALLS));
     put(kept, CHECKS, get(&counted, CHECKS));
     true

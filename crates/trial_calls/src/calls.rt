@@ -3,25 +3,29 @@ ghost use mathlib.Core.Path.{_≡_};
 ghost use Prim.Native.Nat.{_+_, _%_, _^_};
 ghost use lib.Dec.{eqb};
 ghost use lib.ListN.{getD, length, set};
-ghost use Rattle.rules.specs.Job.{jobOf};
+ghost use Rattle.rules.specs.Job.{jobWith};
 ghost use Rattle.rules.specs.Plans.{checked};
 use crate::report::line;
 use setting::Options;
 use trial_parts::either;
+use trial_parts::first_bytes;
 use trial_parts::get;
 use trial_parts::get_cell;
 use trial_parts::kept::CALLS;
+use trial_parts::kept::CHANNELS;
 use trial_parts::kept::CHECKS;
 use trial_parts::kept::CHOICE;
 use trial_parts::kept::FILTER;
 use trial_parts::kept::LIMIT;
 use trial_parts::kept::NODES;
 use trial_parts::kept::NUMBER;
+use trial_parts::kept::ON_AIR;
 use trial_parts::kept::PLAN;
 use trial_parts::kept::WANTED;
 use trial_parts::narrow;
 use trial_parts::plus;
 use trial_parts::put;
+use trial_parts::put_bytes;
 
 // Any number of nodes; and the number wanted of a call that is to be accepted, whatever its answer.
 pub const ANY: usize = 4294967296;
@@ -37,16 +41,19 @@ pub fn more(kept: &mut [usize], what: usize)
 }
 
 // The limit of the next planning call, and the number and the nodes wanted of it.
-pub fn want(kept: &mut [usize], limit: usize, number: usize, nodes: usize) {
+pub fn want(kept: &mut [usize], limit: usize, number: usize, nodes: usize)
+    ensures { λ _. ⌜ length (now (kept .exit)) ≡ length (now (kept .entry)) ⌝ }
+{
     put(kept, LIMIT, limit);
     put(kept, NUMBER, number);
     put(kept, WANTED, nodes);
 }
 
-// The number of a planning call's answer; its nodes are kept.
-fn ask(
+// The number of a planning call's answer with the channels on air; its nodes are kept.
+fn ask_on(
     kept: &mut [usize],
     sheet: &[u8],
+    channels: &[u8],
     callers: &[u8],
     cells: &mut [u32],
     work: &mut [u64],
@@ -56,10 +63,24 @@ fn ask(
         choice: narrow(get(kept, CHOICE)),
         limit: narrow(get(kept, LIMIT)),
     };
-    let p = planner::plan(sheet, options, callers, cells, work);
+    let p = planner::plan(sheet, channels, options, callers, cells, work);
     put(kept, NODES, p.nodes as usize);
     let verdict = p.verdict;
     planner::verdict_number(verdict) as usize
+}
+
+// The same with the channels of the job.
+fn ask(
+    kept: &mut [usize],
+    sheet: &[u8],
+    callers: &[u8],
+    cells: &mut [u32],
+    work: &mut [u64],
+) -> usize {
+    let mut channels = [0u8; 60];
+    put_bytes(kept, CHANNELS, &mut channels);
+    let m = get(kept, ON_AIR);
+    ask_on(kept, sheet, first_bytes(&channels, m), callers, cells, work)
 }
 
 fn all_zero(work: &[u64]) -> bool {
@@ -123,20 +144,18 @@ fn print_difference(kept: &[usize], number: usize, cells: &[u32]) {
 }
 
 // The number of the plan check's answer.
-fn check_of(sheet: &[u8], cells: &[u32]) -> usize
-    ensures { λ r. ⌜ r ≡ checked (jobOf (now (sheet .entry))) (now (cells .entry)) ⌝ }
+fn check_of(sheet: &[u8], channels: &[u8], cells: &[u32]) -> usize
+    ensures { λ r. ⌜ r ≡ checked (jobWith (now (sheet .entry)) (now (channels .entry))) (now (cells .entry)) ⌝ }
 {
-    rules::check_number(planner::check(sheet, cells)) as usize
+    rules::check_number(planner::check(sheet, channels, cells)) as usize
 }
 
-// Whether the plan check gives the number wanted.
-pub fn checks(kept: &mut [usize], sheet: &[u8], cells: &[u32], number: usize) -> bool
-    ensures { λ r. ⌜
-        (now (kept .exit) ≡ set (now (kept .entry)) 2 ((getD (now (kept .entry)) 2 0 + 1) % 2 ^ 64)) ×
-        (r ≡ eqb (checked (jobOf (now (sheet .entry))) (now (cells .entry))) number) ⌝ }
+// Whether the plan check with the channels on air gives the number wanted.
+fn checks_on(sheet: &[u8], channels: &[u8], cells: &[u32], number: usize) -> bool
+    ensures { λ r. ⌜ r ≡
+        eqb (checked (jobWith (now (sheet .entry)) (now (channels .entry))) (now (cells .entry))) number ⌝ }
 {
-    more(kept, CHECKS);
-    let got = check_of(sheet, cells);
+    let got = check_of(sheet, channels, cells);
     if got == number {
         return true;
     }
@@ -147,6 +166,22 @@ pub fn checks(kept: &mut [usize], sheet: &[u8], cells: &[u32], number: usize) ->
         get_cell(cells, 0),
     );
     false
+}
+
+// The same with the channels of the job.
+pub fn checks(kept: &mut [usize], sheet: &[u8], cells: &[u32], number: usize) -> bool
+    ensures { λ _. ⌜ now (kept .exit) ≡
+        set (now (kept .entry)) 2 ((getD (now (kept .entry)) 2 0 + 1) % 2 ^ 64) ⌝ }
+{
+    let mut channels = [0u8; 60];
+    put_bytes(kept, CHANNELS, &mut channels);
+    more(kept, CHECKS);
+    checks_on(
+        sheet,
+        first_bytes(&channels, get(kept, ON_AIR)),
+        cells,
+        number,
+    )
 }
 
 // Whether a planning call in these cells and words gives the number and the nodes wanted, the plan where it is found,

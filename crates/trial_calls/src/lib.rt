@@ -1,9 +1,8 @@
-// Calls of the test program: the planner and the plan check beside what is wanted of them, a job's sheet beside
-// the brute-force solver, and so many small jobs. A difference is printed.
+// Calls of the test program: the planner and the plan check beside what is wanted of them, one by one and under every
+// filter number. A difference is printed.
 mod calls;
-mod choices;
 mod report;
-mod small;
+mod trees;
 
 pub use calls::ACCEPTED;
 pub use calls::ANY;
@@ -11,5 +10,6 @@ pub use calls::checks;
 pub use calls::more;
 pub use calls::plans;
 pub use calls::plans_in;
-pub use choices::beside;
-pub use small::small_sheets;
+pub use calls::want;
+pub use trees::MOST;
+pub use trees::under_filters;

@@ -1,5 +1,5 @@
-// A small job's graph, read off its rules: the layer of each of 32 vertices, and after these a row of 32 for each, 1
-// where two are adjacent.
+// A small job's graph, read off its rules and its channels on air: the layer of each of 32 vertices, k where it is in
+// none, and after these a row of 32 for each, 1 where two are adjacent.
 ghost use mathlib.Core.Path.{_≡_};
 ghost use lib.ListN.{length};
 use trial_parts::count;
@@ -7,8 +7,10 @@ use trial_parts::distance;
 use trial_parts::either;
 use trial_parts::first;
 use trial_parts::get;
+use trial_parts::kept::CHANNELS;
 use trial_parts::kept::K;
 use trial_parts::kept::N;
+use trial_parts::kept::ON_AIR;
 use trial_parts::kept::PAIRS;
 use trial_parts::kept::Q;
 use trial_parts::khz;
@@ -38,6 +40,36 @@ fn link_of(job: &[usize], v: usize) -> usize {
         l += 1;
     }
     k
+}
+
+// Whether a channel covers a frequency: 470,000 + 8,000(c - 21) kHz up to, but without, 8,000 more.
+fn covers(channel: usize, f: usize) -> bool {
+    let low = plus(470000, times(8000, less(channel, 21)));
+    if f < low {
+        return false;
+    }
+    f < plus(low, 8000)
+}
+
+// Whether a channel on air covers a frequency.
+fn is_covered(job: &[usize], f: usize) -> bool {
+    let m = get(job, ON_AIR);
+    let mut i = 0;
+    while i < m {
+        if covers(get(job, plus(CHANNELS, i)), f) {
+            return true;
+        }
+        i += 1;
+    }
+    false
+}
+
+// The link whose layer a vertex is in; k for a struck one, which is in none.
+fn layer_of(job: &[usize], v: usize) -> usize {
+    if is_covered(job, khz(job, v)) {
+        return get(job, K);
+    }
+    link_of(job, v)
 }
 
 // The place of the row of the rule of links a and b, 0 where there is none.
@@ -97,10 +129,17 @@ fn allows(job: &[usize], a: usize, b: usize, u: usize, v: usize) -> bool {
     )
 }
 
-// Whether two vertices are adjacent.
+// Whether two vertices are adjacent. A struck one has no neighbours.
 fn adjacent(job: &[usize], u: usize, v: usize) -> bool {
-    let a = link_of(job, u);
-    let b = link_of(job, v);
+    let k = get(job, K);
+    let a = layer_of(job, u);
+    let b = layer_of(job, v);
+    if k <= a {
+        return false;
+    }
+    if k <= b {
+        return false;
+    }
     if a < b {
         return allows(job, a, b, u, v);
     }
@@ -119,7 +158,7 @@ fn fill_cell(job: &[usize], graph: &mut [usize], u: usize, v: usize) {
     if n <= v {
         return;
     }
-    put(graph, u, link_of(job, u));
+    put(graph, u, layer_of(job, u));
     let x = either(adjacent(job, u, v), 1, 0);
     put(graph, plus(plus(32, times(32, u)), v), x);
 }

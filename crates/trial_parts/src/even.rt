@@ -3,21 +3,21 @@
 // frequencies, which are equal, in k + 1 nodes. With frequencies of their own, no two equal, it does so with any rules.
 ghost use mathlib.Core.Path.{_≡_};
 ghost use lib.ListN.{length};
-use crate::job::first;
-use crate::job::khz;
-use crate::job::put_link;
-use crate::job::put_pair;
-use crate::job::put_rule;
-use crate::kept::FREQUENCIES;
-use crate::kept::K;
-use crate::kept::N;
-use crate::kept::PLAN;
-use crate::kept::Q;
-use crate::kept::T;
-use crate::parts::either;
-use crate::parts::get;
-use crate::parts::plus;
-use crate::parts::put;
+use trial_tables::either;
+use trial_tables::first;
+use trial_tables::get;
+use trial_tables::kept::FREQUENCIES;
+use trial_tables::kept::K;
+use trial_tables::kept::N;
+use trial_tables::kept::PLAN;
+use trial_tables::kept::Q;
+use trial_tables::kept::T;
+use trial_tables::khz;
+use trial_tables::plus;
+use trial_tables::put;
+use trial_tables::put_link;
+use trial_tables::put_pair;
+use trial_tables::put_rule;
 
 // Part i of a total in equal parts, the first ones one larger where it does not come out even.
 fn share(total: usize, parts: usize, i: usize) -> usize {

@@ -3,13 +3,13 @@
 ghost use mathlib.Core.Path.{_≡_};
 ghost use Prim.Native.Nat.{_+_, _%_, _^_, _≤_};
 ghost use lib.ListN.{getD, length, set};
-use crate::kept::AT;
-use crate::kept::INPUT;
-use crate::parts::get;
-use crate::parts::get_byte;
-use crate::parts::less;
-use crate::parts::plus;
-use crate::parts::put;
+use trial_tables::get;
+use trial_tables::get_byte;
+use trial_tables::kept::AT;
+use trial_tables::kept::INPUT;
+use trial_tables::less;
+use trial_tables::plus;
+use trial_tables::put;
 
 pub const SKIP: usize = 1000000000000;
 

@@ -1,11 +1,7 @@
-// Parts of the test program: reads, writes and sums at any place and of any numbers, the fields of a job, the sheet
-// that says them, jobs at the limits, the words and numbers of the input, and the jobs that its rows say. All of it
-// works on plain numbers in tables.
+// Parts of the test program: the words and numbers of the input, the jobs that its rows say, jobs at the limits, and
+// all of `trial_tables`.
 mod even;
 mod input;
-mod job;
-pub mod kept;
-mod parts;
 mod reading;
 
 pub use even::put_own;
@@ -16,29 +12,31 @@ pub use input::line_end;
 pub use input::next;
 pub use input::next_run;
 pub use input::read;
-pub use job::count;
-pub use job::encode;
-pub use job::first;
-pub use job::khz;
-pub use job::put_link;
-pub use job::put_pair;
-pub use job::put_rule;
-pub use job::rule_at;
-pub use job::widths;
-pub use parts::after;
-pub use parts::distance;
-pub use parts::either;
-pub use parts::first_bytes;
-pub use parts::get;
-pub use parts::get_byte;
-pub use parts::get_cell;
-pub use parts::less;
-pub use parts::narrow;
-pub use parts::plus;
-pub use parts::put;
-pub use parts::put_byte;
-pub use parts::put_cell;
-pub use parts::put_half;
-pub use parts::put_word;
-pub use parts::times;
 pub use reading::reads_job;
+pub use trial_tables::after;
+pub use trial_tables::count;
+pub use trial_tables::distance;
+pub use trial_tables::either;
+pub use trial_tables::encode;
+pub use trial_tables::first;
+pub use trial_tables::first_bytes;
+pub use trial_tables::get;
+pub use trial_tables::get_byte;
+pub use trial_tables::get_cell;
+pub use trial_tables::kept;
+pub use trial_tables::khz;
+pub use trial_tables::less;
+pub use trial_tables::narrow;
+pub use trial_tables::plus;
+pub use trial_tables::put;
+pub use trial_tables::put_byte;
+pub use trial_tables::put_bytes;
+pub use trial_tables::put_cell;
+pub use trial_tables::put_half;
+pub use trial_tables::put_link;
+pub use trial_tables::put_pair;
+pub use trial_tables::put_rule;
+pub use trial_tables::put_word;
+pub use trial_tables::rule_at;
+pub use trial_tables::times;
+pub use trial_tables::widths;

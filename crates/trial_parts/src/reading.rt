@@ -3,20 +3,23 @@ ghost use mathlib.Core.Path.{_≡_};
 ghost use lib.ListN.{length};
 use crate::even::make_even;
 use crate::even::put_own;
+use crate::input::next;
 use crate::input::next_run;
-use crate::kept::FREQUENCIES;
-use crate::kept::K;
-use crate::kept::LINKS;
-use crate::kept::N;
-use crate::kept::PAIRS;
-use crate::kept::Q;
-use crate::kept::RULES;
-use crate::kept::T;
-use crate::kept::WIDE;
-use crate::kept::WIDTHS;
-use crate::parts::get;
-use crate::parts::put;
-use crate::parts::times;
+use trial_tables::get;
+use trial_tables::kept::CHANNELS;
+use trial_tables::kept::FREQUENCIES;
+use trial_tables::kept::K;
+use trial_tables::kept::LINKS;
+use trial_tables::kept::N;
+use trial_tables::kept::ON_AIR;
+use trial_tables::kept::PAIRS;
+use trial_tables::kept::Q;
+use trial_tables::kept::RULES;
+use trial_tables::kept::T;
+use trial_tables::kept::WIDE;
+use trial_tables::kept::WIDTHS;
+use trial_tables::put;
+use trial_tables::times;
 
 // The words that begin a row with a job, by their first bytes.
 const EVEN: usize = 101;
@@ -27,10 +30,18 @@ const OWN: usize = 111;
 
 const SHEET: usize = 115;
 
-// The counts, and then the fields in the sheet's order. It is of form 1, until a row gives widths.
-fn read_sheet(job: &mut [usize]) {
+const UHF: usize = 117;
+
+// The counts. The sheet is of form 1, until a row gives widths, and no channel is on air, until a row gives some.
+fn read_counts(job: &mut [usize]) {
     put(job, WIDE, 0);
+    put(job, ON_AIR, 0);
     next_run(job, K, 4);
+}
+
+// The counts, and then the fields in the sheet's order.
+fn read_sheet(job: &mut [usize]) {
+    read_counts(job);
     next_run(job, LINKS, times(2, get(job, K)));
     next_run(job, FREQUENCIES, get(job, N));
     read_rules(job);
@@ -42,9 +53,19 @@ fn read_rules(job: &mut [usize]) {
 }
 
 fn read_even(job: &mut [usize]) {
-    put(job, WIDE, 0);
-    next_run(job, K, 4);
+    read_counts(job);
     make_even(job);
+}
+
+fn read_widths(job: &mut [usize]) {
+    put(job, WIDE, 1);
+    next_run(job, WIDTHS, get(job, K));
+}
+
+fn read_channels(job: &mut [usize]) {
+    let m = next(job);
+    put(job, ON_AIR, m);
+    next_run(job, CHANNELS, m);
 }
 
 // Reads a row with a job. Says whether the word begins one.
@@ -65,8 +86,11 @@ pub fn reads_job(job: &mut [usize], word: usize) -> bool
         return true;
     }
     if word == KHZ {
-        put(job, WIDE, 1);
-        next_run(job, WIDTHS, get(job, K));
+        read_widths(job);
+        return true;
+    }
+    if word == UHF {
+        read_channels(job);
         return true;
     }
     false

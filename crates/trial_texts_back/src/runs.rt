@@ -20,7 +20,7 @@ fn ask(
     work: &mut [u64],
 ) -> usize {
     more(kept, CALLS);
-    let p = planner::plan(sheet, options, b"", cells, work);
+    let p = planner::plan(sheet, b"", options, b"", cells, work);
     put(kept, NODES, p.nodes as usize);
     let verdict = p.verdict;
     planner::verdict_number(verdict) as usize

@@ -1,5 +1,5 @@
 pub mod Bounds
 pub mod Classes
 pub mod Lists
-pub mod Root
+pub mod Cutting
 pub mod Filling

@@ -1,18 +1,16 @@
 // The work words of a job: where its rows lie, and how they are filled before the search, with the rows of the graph,
-// the masks of the layers and of the classes, and the root row. The contract of `fill_words` cites `Filled` of
-// specs/Filled.antt.
+// the masks of the layers and of the classes, and the root row; a struck vertex is in none of them. The contract of
+// `fill_words` cites `Filled` of specs/Filled.antt.
 mod places;
 
 ghost use mathlib.Core.Path.{_≡_};
 ghost use Prim.Native.Nat.{_+_, _*_, _<_, _≤_};
 ghost use lib.ListN.{length};
-ghost use Rattle.sets.specs.Sets.{whole};
-ghost use Rattle.rows.specs.Rows.{Put};
-ghost use Rattle.rules.specs.Job.{jobOf};
+ghost use Rattle.rules.specs.Job.{jobWith};
 ghost use Rattle.partition.specs.Choice.{classList};
 ghost use Rattle.partition.specs.Words.{Masks, BuilderRoom};
 ghost use Rattle.setting.specs.Setting.{settingOf};
-ghost use Rattle.work_words.specs.Filled.{Placed, RowsPut, ListChecked, ListBuilt, Filled};
+ghost use Rattle.work_words.specs.Filled.{Placed, RowsPut, ListChecked, ListBuilt, MasksCut, Filled};
 use cliques::Place;
 use graph::build_graph;
 use partition::build_classes;
@@ -22,6 +20,9 @@ use partition::put_layers;
 use partition::put_masks;
 pub use places::lay_out;
 use setting::Options;
+use strikes::cut_rows;
+use strikes::put_unstruck;
+use strikes::strike_graph;
 
 // A row is w words.
 pub struct Layout {
@@ -32,11 +33,21 @@ pub struct Layout {
 }
 
 // The rows of the graph, the list of the layers and their masks.
-fn put_rows(sheet: &[u8], place: Place, layers: usize, built: &mut [u8], work: &mut [u64])
-    requires { ⌜ Placed (now sheet) place layers (length (now work)) (length (now built)) ⌝ }
-    ensures { λ _. ⌜ RowsPut (jobOf (now (sheet .entry))) place layers (now (work .exit)) (now (built .exit)) ⌝ }
+fn put_rows(
+    sheet: &[u8],
+    channels: &[u8],
+    place: Place,
+    layers: usize,
+    built: &mut [u8],
+    work: &mut [u64],
+)
+    requires { ⌜ Placed (jobWith (now sheet) (now channels)) place layers (length (now work)) (length (now built)) ⌝ }
+    ensures { λ _. ⌜ RowsPut (jobWith (now (sheet .entry)) (now (channels .entry))) place layers
+        (now (work .exit)) (now (built .exit)) ⌝ }
 {
     build_graph(work, place, sheet);
+    put_unstruck(work, place.w, sheet, channels);
+    strike_graph(work, place, sheet, channels);
     put_layers(sheet, place.n, place.k, built);
     put_masks(work, place, layers, built);
 }
@@ -83,22 +94,21 @@ fn put_class_masks<'a>(
     put_masks(work, place, place.masks, list);
 }
 
-// The root row: every vertex.
-fn put_root(work: &mut [u64], w: usize, n: usize)
-    requires { ⌜ (w ≤ length (now work)) × (n ≤ 64 * w) ⌝ }
-    ensures { λ _. ⌜ Put (whole n) w 0 (now (work .entry)) (now (work .exit)) ⌝ }
+// The root row gets the vertices that are left, and the masks of the classes and of the layers, which stand one after
+// the other, are cut to it.
+fn cut_masks(sheet: &[u8], channels: &[u8], place: Place, layers: usize, work: &mut [u64])
+    requires { ⌜ Placed (jobWith (now sheet) (now channels)) place layers (length (now work)) (place .n) ⌝ }
+    ensures { λ _. ⌜ MasksCut (jobWith (now (sheet .entry)) (now (channels .entry))) place layers
+        (now (work .entry)) (now (work .exit)) ⌝ }
 {
-    rows::clear(work, w, 0);
-    let mut v = 0;
-    while v < n {
-        rows::insert(work, w, 0, v);
-        v += 1;
-    }
+    put_unstruck(work, place.w, sheet, channels);
+    cut_rows(work, place.w, place.masks, place.k + place.k);
 }
 
 // Fills the words, and says whether the caller's list is none or a partition.
 pub fn fill_words(
     sheet: &[u8],
+    channels: &[u8],
     options: Options,
     classes: &[u8],
     place: Place,
@@ -106,17 +116,18 @@ pub fn fill_words(
     built: &mut [u8],
     work: &mut [u64],
 ) -> bool
-    requires { ⌜ Placed (now sheet) place layers (length (now work)) (length (now built)) × (options .choice ≤ 2) ⌝ }
-    ensures { λ r. ⌜ Filled (jobOf (now (sheet .entry))) (settingOf options (now (classes .entry))) place layers
-        (now (work .exit)) r ⌝ }
+    requires { ⌜ Placed (jobWith (now sheet) (now channels)) place layers (length (now work)) (length (now built))
+        × (options .choice ≤ 2) ⌝ }
+    ensures { λ r. ⌜ Filled (jobWith (now (sheet .entry)) (now (channels .entry)))
+        (settingOf options (now (classes .entry))) place layers (now (work .exit)) r ⌝ }
 {
     let choice = options.choice;
-    put_rows(sheet, place, layers, built, work);
+    put_rows(sheet, channels, place, layers, built, work);
     if !check_list(choice, classes, place, work) {
         return false;
     }
     build_list(choice, place, built, work);
     put_class_masks(choice, classes, built, place, work);
-    put_root(work, place.w, place.n);
+    cut_masks(sheet, channels, place, layers, work);
     true
 }

@@ -10,7 +10,7 @@ use Rattle.sets.specs.Below.{any}
 use Rattle.sets.proofs.Below.{any-none, any-goes-on, any-ends, first-found, first-none}
 use Rattle.sheet.specs.Sheet.{kOf}
 use Rattle.rules.specs.Job.{jobOf}
-use Rattle.graph.specs.Graph.{layer}
+use Rattle.graph.specs.Graph.{linkOf}
 use Rattle.cells.proofs.Links.{isHere}
 use Rattle.cells.proofs.class_in_link.Statement.{statement}
 use Rattle.cells.proofs.class_in_link.Tie as tie
@@ -41,7 +41,7 @@ returns c =
     let e = l .inv .1 in
     sym (first-found (kOf (now (a .sheet))) (l .c) (isHere (now (a .sheet)) (now (a .chosen)) (a .l)) (omega arith)
     (l .inv .2)
-    (ap (λ v. eqb (layer (jobOf (now (a .sheet))) v) (a .l)) (sym (c .before .before .wide .ensures))
+    (ap (λ v. eqb (linkOf (jobOf (now (a .sheet))) v) (a .l)) (sym (c .before .before .wide .ensures))
     ∙ sym (c .before .in-link .ensures) ∙ c .if1 .taken))
 
 loop-again : tie.Need-loop-again Inv-loop μ-loop
@@ -51,7 +51,7 @@ loop-again c =
       omega arith,
       l .inv .1,
       any-goes-on (l .c) (isHere (now (a .sheet)) (now (a .chosen)) (a .l)) (c .before .in-link .result) (l .inv .2)
-          (c .before .in-link .ensures ∙ ap (λ v. eqb (layer (jobOf (now (a .sheet))) v) (a .l))
+          (c .before .in-link .ensures ∙ ap (λ v. eqb (linkOf (jobOf (now (a .sheet))) v) (a .l))
           (c .before .before .wide .ensures)) (c .if1 .left),
     )
 

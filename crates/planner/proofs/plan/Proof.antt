@@ -1,9 +1,9 @@
 -- `planner::plan` meets its contract: the cells are zero before, and the words after.
 use borrow.Author.Needs.{needs}
 use denote.Ref.{now}
-use mathlib.Core.Path.{_≡_, subst, ap, _∙_}
+use mathlib.Core.Path.{subst, ap, _∙_}
 use lib.ListN.{length}
-use Rattle.rules.specs.Job.{jobOf}
+use Rattle.rules.specs.Job.{jobWith}
 use Rattle.zeros.specs.Zeros.{zeros}
 use Rattle.zeros.proofs.Zeros.{zero-length, zero-again}
 use Rattle.setting.specs.Setting.{settingOf}
@@ -19,12 +19,12 @@ returns : tie.Need-returns
 returns c =
     let p = c .before .before .before .before .before .before .before .before in
     let z = p .before .before .before .before .before in
-    let a = z .before .before .before .before .before .before .args in
+    let a = z .before .before .before .before .before .before .before .args in
     record {
       gives = subst
-          (λ m. Gives (outcome (jobOf (now (a .sheet))) (settingOf (a .options) (now (a .classes))) m
-          (length (now (a .work))))
-          (p .plan-zeroed .result) (p .plan-zeroed .last .1 .1 .1 .0))
+          (λ m. Gives (outcome (jobWith (now (a .sheet)) (now (a .channels)))
+          (settingOf (a .options) (now (a .classes))) m (length (now (a .work))))
+          (p .plan-zeroed .result) (p .plan-zeroed .last .1 .1 .1 .1 .0))
           (zero-length _ _ (z .zero-cells .ensures)) (p .plan-zeroed .ensures);
       words = c .before .before .zero-words .ensures ∙ ap zeros (search needs);
     }

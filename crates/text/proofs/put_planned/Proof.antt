@@ -22,6 +22,7 @@ put-planned-spec =
     tie.close
     (tie.spec
     (λ c. search needs)
+    (λ c. search needs)
     (λ c κs. search needs)
     put-answer-requires
     (λ c. search needs)

@@ -5,6 +5,7 @@ use mathlib.Core.Path.{_≡_}
 use native.Mathlib.Omega.{arith}
 use lib.ListN.{length}
 use Rattle.setting.specs.Setting.{settingOf}
+use Rattle.work_words.proofs.Cutting.{placed-again}
 use Rattle.work_words.proofs.Filling.{callers-long, list-refused, words-filled}
 use Rattle.work_words.proofs.fill_words.Statement.{statement}
 use Rattle.work_words.proofs.fill_words.Tie as tie
@@ -13,14 +14,14 @@ returns : tie.Need-returns
 returns c =
     let l = c .before .before .before in
     let r = l .before .before .before .before .before .before in
-    let s = r .before .before .before .before .before .before .before in
+    let s = r .before .before .before .before .before .before .before .before in
     list-refused (s .pre .0) (settingOf (s .args .options) (now (s .args .classes))) (r .put-rows .ensures)
     (l .check-list .ensures) (c .if1 .taken)
 
 build-list-requires : tie.Need-build-list-requires
 build-list-requires c κs =
     let near = c .before .before .before .before .before .before .before .before .before .before in
-    let p = near .before .before .before .before .before .before .before .before .pre in
+    let p = near .before .before .before .before .before .before .before .before .before .pre in
     let o = p .0 .laid in (
       record {
         front = omega (arith, o .front, o .after-masks, o .after-layers);
@@ -35,12 +36,12 @@ build-list-requires c κs =
 -- a caller's list that is used has a class for each vertex
 callers-there : (c : tie.Else1) →
     let near = c .before .before .before .before .before .before .before .before .before .before in
-    let a = near .before .before .before .before .before .before .args in
+    let a = near .before .before .before .before .before .before .before .args in
     a .options .choice ≡ 2 → length (now (a .classes)) ≡ a .place .n
 callers-there c =
     let l = c .before .before .before in
     let r = l .before .before .before .before .before .before in
-    let s = r .before .before .before .before .before .before .before in
+    let s = r .before .before .before .before .before .before .before .before in
     callers-long (s .pre .0) (settingOf (s .args .options) (now (s .args .classes))) (r .put-rows .ensures)
     (l .check-list .ensures) (c .if1 .left)
 
@@ -48,7 +49,7 @@ put-class-masks-requires : tie.Need-put-class-masks-requires
 put-class-masks-requires c κs =
     let near = c .before .before .before .before .before .before .before .before .before .before in
     let far = near .before .before .before .before .before .before .before .before .before .before in
-    let P = far .before .before .before .before .before .pre .0 in
+    let P = far .before .before .before .before .before .before .pre .0 in
     let o = P .laid in (
       λ two. omega (
         arith,
@@ -60,12 +61,12 @@ put-class-masks-requires c κs =
       o .wide,
     )
 
-put-root-requires : tie.Need-put-root-requires
-put-root-requires c κs =
+cut-masks-requires : tie.Need-cut-masks-requires
+cut-masks-requires c κs =
     let near = c .before .before .before .before .before .before .before .before .before .before in
     let far = near .before .before .before .before .before .before .before .before .before .before in
-    let o = far .before .before .before .before .before .before .before .before .before .pre .0 .laid in
-    (search needs, o .wide)
+    placed-again (far .before .before .before .before .before .before .before .before .before .before .pre .0)
+    (search needs)
 
 returns-2 : tie.Need-returns-2
 returns-2 c =
@@ -75,10 +76,10 @@ returns-2 c =
     let i = b .before .before .before in
     let l = i .before .before .before in
     let r = l .before .before .before .before .before .before in
-    let s = r .before .before .before .before .before .before .before in
+    let s = r .before .before .before .before .before .before .before .before in
     words-filled (s .pre .0) (settingOf (s .args .options) (now (s .args .classes))) (s .pre .1) (r .put-rows .ensures)
     (l .check-list .ensures)
-    (i .if1 .left) (b .build-list .ensures) (m .put-class-masks .ensures) (t .put-root .ensures)
+    (i .if1 .left) (b .build-list .ensures) (m .put-class-masks .ensures) (t .cut-masks .ensures)
 
 pub fill-words-spec : {M : Type 1} → statement M
 fill-words-spec =
@@ -91,7 +92,7 @@ fill-words-spec =
     returns
     build-list-requires
     put-class-masks-requires
-    put-root-requires
+    cut-masks-requires
     (λ c. search needs)
     (λ c. search needs)
     returns-2)

@@ -2,12 +2,12 @@
 use borrow.Author.Needs.{needs}
 use mathlib.Core.Path.{_∙_, sym}
 use borrow.Author.Tests.{not-false, not-true}
-use Rattle.rules.specs.Plans.{keeps, keepsJob}
+use Rattle.rules.specs.Plans.{keeps, keepsSheet}
 use Rattle.rules.proofs.plans.keeps_sheet.Statement.{statement}
 use Rattle.rules.proofs.plans.keeps_sheet.Tie as tie
 
 returns : tie.Need-returns
-unfolding keepsJob keeps
+unfolding keepsSheet keeps
 returns c = rw (← c .before .cells-listed .ensures, not-true (c .before .cells-listed .result) (c .if1 .taken))
 
 links-kept-requires : tie.Need-links-kept-requires
@@ -20,7 +20,7 @@ links-kept-requires c κs =
     }
 
 returns-2 : tie.Need-returns-2
-unfolding keepsJob keeps
+unfolding keepsSheet keeps
 returns-2 c =
     let h = c .before .before .cells-listed in rw (← h .ensures, not-false (h .result) (c .before .if1 .left))
     (c .links-kept .ensures)

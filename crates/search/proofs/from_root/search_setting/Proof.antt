@@ -1,6 +1,6 @@
 -- `search::from_root::search_setting` meets its contract, way by way.
 use borrow.Author.Needs.{needs}
-use Rattle.search.proofs.Rooted.{no-class, with-pre-filter, without-pre-filter}
+use Rattle.search.proofs.Rooted.{one-empty, with-pre-filter, without-pre-filter}
 use Rattle.search.proofs.from_root.search_setting.Statement.{statement}
 use Rattle.search.proofs.from_root.search_setting.Tie as tie
 
@@ -8,7 +8,7 @@ returns : tie.Need-returns
 returns c =
     let o = c .before .before in
     let s = o .before .before .before .before in
-    no-class (s .pre .0) _ (o .is-open .ensures) (c .before .if1 .taken) (c .no-nodes .ensures)
+    one-empty (s .pre .0) _ (o .none-empty .ensures) (c .before .if1 .taken) (c .no-nodes .ensures)
 
 returns-2 : tie.Need-returns-2
 returns-2 c =
@@ -16,7 +16,7 @@ returns-2 c =
     let t = a .before .before .before in
     let o = t .before .before in
     let s = o .before .before .before .before in
-    with-pre-filter (s .pre .0) _ (o .is-open .ensures) (t .before .if1 .left) (t .if2 .taken)
+    with-pre-filter (s .pre .0) _ (o .none-empty .ensures) (t .before .if1 .left) (t .if2 .taken)
     (a .after-pre-filter .ensures)
 
 returns-3 : tie.Need-returns-3
@@ -25,7 +25,7 @@ returns-3 c =
     let t = a .before .before .before in
     let o = t .before .before in
     let s = o .before .before .before .before in
-    without-pre-filter (s .pre .0) _ (o .is-open .ensures) (t .before .if1 .left) (t .if2 .left) (a .run .ensures)
+    without-pre-filter (s .pre .0) _ (o .none-empty .ensures) (t .before .if1 .left) (t .if2 .left) (a .run .ensures)
 
 pub search-setting-spec : {M : Type 1} → statement M
 search-setting-spec =

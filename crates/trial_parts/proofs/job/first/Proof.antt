@@ -1,9 +1,0 @@
--- `trial_parts::job::first`: the sums and the read, one after the other.
-use borrow.Author.Needs.{needs}
-use Rattle.trial_parts.proofs.job.first.Statement.{statement}
-use Rattle.trial_parts.proofs.job.first.Tie as tie
-
-pub first-spec : {M : Type 1} → statement M
-first-spec =
-    tie.close
-    (tie.spec (λ c κs. search needs) (λ c κs. search needs) (λ c κs. search needs) (λ c. cc))

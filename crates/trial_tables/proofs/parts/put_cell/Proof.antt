@@ -1,0 +1,27 @@
+-- `put_cell`: past the end nothing is set.
+use borrow.Author.Needs.{needs}
+use mathlib.Core.Path.{sym}
+use lib.Seq.{set-out}
+use Rattle.trial_tables.proofs.parts.put_cell.Statement.{statement}
+use Rattle.trial_tables.proofs.parts.put_cell.Tie as tie
+
+cast-s : tie.Need-cast-s
+cast-s c = search needs
+
+mul-s : tie.Need-mul-s
+mul-s c = search needs
+
+slice-write-s : tie.Need-slice-write-s
+slice-write-s c = search needs
+
+same-length : tie.Need-same-length
+same-length c = search needs
+
+returns : tie.Need-returns
+returns c = search needs
+
+returns-2 : tie.Need-returns-2
+returns-2 c = sym (set-out _ _ _ (search needs))
+
+pub put-cell-spec : {M : Type 1} → statement M
+put-cell-spec = tie.close (tie.spec cast-s mul-s slice-write-s same-length returns returns-2)
