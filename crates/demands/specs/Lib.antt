@@ -1,3 +1,4 @@
 pub mod Demands
 pub mod CallDemands
 pub mod SameGraph
+pub mod NoList

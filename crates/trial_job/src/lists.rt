@@ -1,7 +1,6 @@
 // Class lists from the fixed pseudo-random sequence.
-ghost use mathlib.Core.Path.{_≡_};
 ghost use Prim.Native.Nat.{_+_, _≤_};
-ghost use lib.ListN.{getD, length};
+ghost use lib.ListN.{getD};
 use crate::classes::has_neighbour_in;
 use crate::classes::put_layers;
 use trial_draws::draw;

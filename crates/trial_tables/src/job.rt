@@ -1,7 +1,7 @@
 // A job's fields, read and written one by one, and as the bytes of its sheet.
 ghost use mathlib.Core.Path.{_≡_};
 ghost use Prim.Native.Nat.{_+_, _*_, _%_, _^_};
-ghost use lib.ListN.{getD, length};
+ghost use lib.ListN.{getD};
 ghost use Rattle.trial_tables.specs.Fields.{linkBytes, pairAt, ruleAt, sheetLength, widthsOf};
 use crate::kept::FREQUENCIES;
 use crate::kept::K;
