@@ -7,8 +7,8 @@ use Rattle.sheet_rows.specs.Rows
 use Rattle.sheet.specs.Sheet
 use Rattle.sheet.specs.Refusal
 use Rattle.rules.specs.Job
-use Rattle.rules.specs.Pairs
-use Rattle.rules.specs.Layers
+use Rattle.pair_test.specs.Pairs
+use Rattle.pair_test.specs.Layers
 use Rattle.rules.specs.Plans
 use Rattle.cliques.specs.Graph
 use Rattle.cliques.specs.Listing
@@ -54,13 +54,13 @@ unfolding Channels.lowerEdge Channels.covers Channels.channelOk Channels.channel
 openChannels = tt
 
 unfoldable pub openCheck : Unit {0}
-unfolding Plans.placeOf Plans.hasFreq Plans.vertexOf Plans.inLists Plans.pairKept Plans.linkKept Plans.keeps
-    Plans.keepsSheet Plans.clear Plans.keepsJob Plans.checked
+unfolding Plans.placeOf Plans.hasFreq Plans.vertexOf Plans.inLists Plans.spareTaken Plans.pairKept Plans.linkKept
+    Plans.keeps Plans.keepsSheet Plans.clear Plans.keepsJob Plans.checked
 openCheck = tt
 
 unfoldable pub openGraph : Unit {0}
-unfolding Pairs.distance Pairs.samePair Pairs.listsPair Pairs.spaced Pairs.agree Pairs.ruleWidths
-    Pairs.ofLinks Pairs.differ Pairs.allows Pairs.joins Layers.layerOf
+unfolding Pairs.distance Pairs.samePair Pairs.listsPair Pairs.zeroOrMore Pairs.spareBy Pairs.ruleWidths
+    Pairs.ofLinks Pairs.spareFree Pairs.spareRow Pairs.spare Layers.layerOf
     Micro.linksDiffer Micro.adjacent Graph.inClass Graph.size Graph.some Graph.lone Graph.two Graph.lower Graph.higher
     Graph.isOpen Listing.byLayer
 openGraph = tt

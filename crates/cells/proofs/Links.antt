@@ -15,7 +15,7 @@ use Rattle.sheet.specs.Sheet.{kOf, nOf, freqPart}
 use Rattle.sheet.specs.Accepted.{Accepted}
 use Rattle.cliques.specs.Listing.{byLayer}
 use Rattle.rules.specs.Job.{jobOf}
-use Rattle.rules.proofs.Laws.{link-test}
+use Rattle.pair_test.proofs.Laws.{link-test}
 use Rattle.graph.specs.Graph.{linkOf}
 use Rattle.sets.specs.Below.{first, tabulate}
 use Rattle.sets.proofs.Below.{first-lt}

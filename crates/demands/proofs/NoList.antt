@@ -14,9 +14,9 @@ use Rattle.sheet.specs.Refusal.{refusal}
 use Rattle.sheet.proofs.Accepted.{accepted}
 use Rattle.sheet.proofs.Links.{link-some}
 use Rattle.rules.specs.Job.{jobOf, unstruck}
-use Rattle.rules.specs.Layers.{InLink}
+use Rattle.pair_test.specs.Layers.{InLink}
 use Rattle.rules.specs.Plans.{clear, keepsSheet, keepsJob}
-use Rattle.rules.proofs.Laws.{layer-of, in-link-lt}
+use Rattle.pair_test.proofs.Laws.{layer-of, in-link-lt}
 use Rattle.cliques.specs.Graph.{isOpen}
 use Rattle.cliques.proofs.Graph.{open-in, some-in}
 use Rattle.graph.specs.Graph.{layer, graphOf}

@@ -8,7 +8,7 @@ use Rattle.channels.specs.Channels.{channelsOk}
 use Rattle.sheet.specs.Sheet.{kOf, nOf}
 use Rattle.sheet.specs.Refusal.{refusal}
 use Rattle.rules.specs.Job.{jobOf, unstruck}
-use Rattle.rules.specs.Layers.{layerOf}
+use Rattle.pair_test.specs.Layers.{layerOf}
 use Rattle.rules.specs.Plans.{keepsSheet, keepsJob}
 use Rattle.cliques.specs.Graph.{isOpen, noneEmpty}
 use Rattle.graph.specs.Graph.{sheetEdge, layer, edge}

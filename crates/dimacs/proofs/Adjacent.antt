@@ -12,10 +12,12 @@ use Rattle.sets.proofs.Tests.{bool, clash, is-false, iff, below, and-l, and-r, 
 use Rattle.sets.proofs.Below.{any-in, first-lt, first-is, sum-in, count-le, count-less}
 use Rattle.sheet_rows.specs.Rows.{linkFirst, pairFirst}
 use Rattle.sheet.specs.Sheet.{mostKHz}
-use Rattle.rules.specs.Layers.{layerOf, InLink}
-use Rattle.rules.specs.Pairs.{distance, samePair, listsPair, agree, ofLinks, differ, allows, joins}
-use Rattle.rules.proofs.Laws.{layer-in, spaced-near}
-use Rattle.rules.proofs.Pairing.{of-in, of-out, joins-when}
+use Rattle.pair_test.specs.Layers.{layerOf, InLink}
+use Rattle.pair_test.specs.Pairs.{distance, samePair, listsPair, zeroOrMore, spareBy, ofLinks, spareFree, spareRow}
+use Rattle.pair_test.specs.Pairs.{spare}
+use Rattle.pair_test.proofs.Laws.{layer-in}
+use Rattle.pair_test.proofs.Numbers.{near-barred, three-allowed, free-allowed}
+use Rattle.pair_test.proofs.Pairing.{of-in, of-out, spare-when}
 use Rattle.graph.specs.Graph.{linksDiffer, adjacent}
 use Rattle.graph.proofs.Graph.{adjacent-out, adjacent-sym}
 use Rattle.dimacs.specs.Reading.{countOf, firstOf, verticesOf, layerBy}
@@ -184,25 +186,26 @@ module _ (cs : List ℕ) (adj : ℕ → ℕ → Bool) (S : Small cs) where
             ∙ code-second (countOf cs b) (u - firstOf cs a) (v - firstOf cs b) d)))
 
     -- links joined by none: no frequencies differ by as much as 9,999,999
-    none-agree : length (rulePairs cs adj j) ≡ 0 → (w : ℕ) (l : Bool)
-        → agree (kindOf cs adj j) (valueOf cs adj j) w (distance (u + 1) (v + 1)) l ≡ adj u v
-    unfolding agree kindOf valueOf distance rulePairs
-    none-agree e w l =
+    none-allowed : length (rulePairs cs adj j) ≡ 0 → (w : ℕ) (l : Bool)
+        → zeroOrMore (spareBy (kindOf cs adj j) (valueOf cs adj j) w (distance (u + 1) (v + 1)) l) ≡ adj u v
+    unfolding kindOf valueOf distance rulePairs
+    none-allowed e w l =
         let few = S .freqs-few in
         let f : firstOf cs a + countOf cs a ≤ verticesOf cs = link-within cs a (x .link) in
         let g : firstOf cs b + countOf cs b ≤ verticesOf cs = link-within cs b (y .link) in
         let d : (u + 1 - (v + 1)) + (v + 1 - (u + 1)) < mostKHz = omega (arith, x .high, y .high) in
-        rw (e, ← spaced-near mostKHz w _ d)
+        rw (e, near-barred mostKHz w _ l d)
         (sym (is-false (adj u v) (λ t. let r = listed-at a b u v x y t .0 in absurd (omega arith))))
 
-    some-agree : 0 < length (rulePairs cs adj j) → (w d : ℕ) (l : Bool)
-        → agree (kindOf cs adj j) (valueOf cs adj j) w d l ≡ l
-    unfolding agree kindOf
-    some-agree o w d l = let ne : length (rulePairs cs adj j) ≡ 0
-        → ⊥ = λ e. omega arith in rw (ne-eqb (length (rulePairs cs adj j)) 0 ne)
+    some-allowed : 0 < length (rulePairs cs adj j) → (w d : ℕ) (l : Bool)
+        → zeroOrMore (spareBy (kindOf cs adj j) (valueOf cs adj j) w d l) ≡ l
+    unfolding kindOf
+    some-allowed o w d l = let ne : length (rulePairs cs adj j) ≡ 0
+        → ⊥ = λ e. omega arith in three-allowed _ _ w d l (rw (ne-eqb (length (rulePairs cs adj j)) 0 ne) refl)
 
-    pub allows-is : allows s (freqRows cs ++ also) (ruleRows cs adj ++ rest) (pairRows cs adj) j u v ≡ adj u v
-    unfolding allows listsPair
+    pub allows-is : zeroOrMore (spareRow s (freqRows cs ++ also) (ruleRows cs adj ++ rest) (pairRows cs adj) j u v)
+        ≡ adj u v
+    unfolding spareRow listsPair
     allows-is =
         let f : firstOf cs a + countOf cs a ≤ verticesOf cs = link-within cs a (x .link) in
         let g : firstOf cs b + countOf cs b ≤ verticesOf cs = link-within cs b (y .link) in
@@ -220,10 +223,10 @@ module _ (cs : List ℕ) (adj : ℕ → ℕ → Bool) (S : Small cs) where
           freq-field cs also v vl,
         )
         (bool (eqb (length (rulePairs cs adj j)) 0)
-        (λ e. none-agree (eqb-true _ _ e) _ _)
+        (λ e. none-allowed (eqb-true _ _ e) _ _)
         (λ e. let ne = eqb-false (length (rulePairs cs adj j)) 0 e in let o : 0 < length (rulePairs cs adj j) =
         omega (arith, ne) in
-        some-agree o _ _ _
+        some-allowed o _ _ _
         ∙ ap (λ z. any (length (rulePairs cs adj j))
         (λ i. samePair (pairRows cs adj) (u - firstOf cs a) (v - firstOf cs b) (z + i))) (value-is cs adj S j o)
         ∙ lists))
@@ -257,22 +260,22 @@ module _ (cs : List ℕ) (adj : ℕ → ℕ → Bool) (S : Small cs) where
 
     module _ (a b u v : ℕ) (l : a < b) (x : In cs a u) (y : In cs b v) where
       row-says : (j : ℕ) → j < ruleTotal cs adj → ruledA cs adj j ≡ a → ruledB cs adj j ≡ b
-          → allows s fs rs ps j u v ≡ adj u v
+          → zeroOrMore (spareRow s fs rs ps j u v) ≡ adj u v
       row-says j h p q = allows-is s also rest L j u v h (rw p x) (rw q y)
 
       -- vertices of different links are on different frequencies
-      apart : differ fs u v ≡ true
-      unfolding differ firstOf
+      apart : zeroOrMore (spareFree fs u v) ≡ true
+      unfolding firstOf
       apart =
           let f : firstOf cs a + countOf cs a ≤ firstOf cs b = sum-in b a (countOf cs) l in
           let g : firstOf cs b + countOf cs b ≤ verticesOf cs = link-within cs b (y .link) in
           let ul : u < verticesOf cs = omega (arith, x .high, y .low, y .high) in
           let vl : v < verticesOf cs = omega (arith, y .high) in
-          rw (freq-field cs also u ul, freq-field cs also v vl)
+          free-allowed fs u v ∙ rw (freq-field cs also u ul, freq-field cs also v vl)
           (not-in (ne-eqb (u + 1) (v + 1) (λ e. omega (arith, x .high, y .low))))
 
-      pub joins-is : joins s fs rs ps (ruleTotal cs adj) a b u v ≡ adj u v
-      joins-is = joins-when s fs rs ps (ruleTotal cs adj) a b u v (adj u v)
+      pub test-is : zeroOrMore (spare s fs rs ps (ruleTotal cs adj) a b u v) ≡ adj u v
+      test-is = spare-when s fs rs ps (λ z. zeroOrMore z ≡ adj u v) (ruleTotal cs adj) a b u v
           (λ j h e. let o = of-out rs a b j e in
           row-says j h (sym (a-field cs adj rest j h) ∙ o .0) (sym (b-field cs adj rest j h) ∙ o .1))
           (λ j h e. let o = of-out rs b a j e in
@@ -293,7 +296,7 @@ module _ (cs : List ℕ) (adj : ℕ → ℕ → Bool) (S : Small cs) where
       lower-is u v a b l =
           let ne : layerBy cs (length cs) u ≡ layerBy cs (length cs) v → ⊥ = λ e. omega arith in
           rw (layer-rows cs s S L u, layer-rows cs s S L v, lt-ltb _ _ a, lt-ltb _ _ b, ne-eqb _ _ ne)
-          (joins-is (layerBy cs (length cs) u) (layerBy cs (length cs) v) u v l (layer-has cs s S L u a)
+          (test-is (layerBy cs (length cs) u) (layerBy cs (length cs) v) u v l (layer-has cs s S L u a)
           (layer-has cs s S L v b))
 
       only-joined : (u v : ℕ) → adjacent s fs rs ps (length cs) (verticesOf cs) (ruleTotal cs adj) u v ≡ true

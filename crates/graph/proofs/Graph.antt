@@ -9,10 +9,10 @@ use Rattle.sets.proofs.Tests.{clash, is-false, iff, and-l, and-r, and-in, not-o
 use Rattle.sheet.specs.Sheet.{kOf, nOf, qOf, freqPart, rulePart, pairPart}
 use Rattle.sheet.specs.Accepted.{Accepted}
 use Rattle.rules.specs.Job.{Job, struck, unstruck}
-use Rattle.rules.specs.Layers.{layerOf}
-use Rattle.rules.specs.Pairs.{joins}
-use Rattle.rules.proofs.Laws.{layer-in}
-use Rattle.rules.proofs.Pairing.{joins-turned}
+use Rattle.pair_test.specs.Layers.{layerOf}
+use Rattle.pair_test.specs.Pairs.{zeroOrMore, spare}
+use Rattle.pair_test.proofs.Laws.{layer-in}
+use Rattle.pair_test.proofs.Pairing.{spare-turned}
 use Rattle.cliques.specs.Graph.{Clique, Layers}
 use Rattle.graph.specs.Graph.{linksDiffer, adjacent, sheetEdge, linkOf, unlessStruck, edge, graphOf}
 
@@ -24,7 +24,7 @@ differ-in sheet k n u v a b ne = and-in (and-in (lt-ltb u n a) (lt-ltb v n b)) (
 module _ (sheet fs rs ps : List ℕ) (k n q : ℕ) where
   -- the parts of the test
   pub adjacent-in : (u v : ℕ) → u < n → v < n → (layerOf sheet k u ≡ layerOf sheet k v → ⊥)
-      → joins sheet fs rs ps q (layerOf sheet k u) (layerOf sheet k v) u v ≡ true
+      → zeroOrMore (spare sheet fs rs ps q (layerOf sheet k u) (layerOf sheet k v) u v) ≡ true
       → adjacent sheet fs rs ps k n q u v ≡ true
   unfolding adjacent
   adjacent-in u v a b ne j = and-in (differ-in sheet k n u v a b ne) j
@@ -33,7 +33,7 @@ module _ (sheet fs rs ps : List ℕ) (k n q : ℕ) where
     pub left : u < n
     pub right : v < n
     pub apart : layerOf sheet k u ≡ layerOf sheet k v → ⊥
-    pub allowed : joins sheet fs rs ps q (layerOf sheet k u) (layerOf sheet k v) u v ≡ true
+    pub allowed : zeroOrMore (spare sheet fs rs ps q (layerOf sheet k u) (layerOf sheet k v) u v) ≡ true
 
   pub adjacent-out : (u v : ℕ) → adjacent sheet fs rs ps k n q u v ≡ true → Adjacent u v
   unfolding adjacent linksDiffer
@@ -51,7 +51,7 @@ module _ (sheet fs rs ps : List ℕ) (k n q : ℕ) where
   turned : (u v : ℕ) → adjacent sheet fs rs ps k n q u v ≡ true → adjacent sheet fs rs ps k n q v u ≡ true
   turned u v h = let r = adjacent-out u v h in
       adjacent-in v u (r .right) (r .left) (λ e. r .apart (sym e))
-      (sym (joins-turned sheet fs rs ps q _ _ u v (r .apart)) ∙ r .allowed)
+      (ap zeroOrMore (sym (spare-turned sheet fs rs ps q _ _ u v (r .apart))) ∙ r .allowed)
 
   pub adjacent-sym : (u v : ℕ) → adjacent sheet fs rs ps k n q u v ≡ adjacent sheet fs rs ps k n q v u
   adjacent-sym u v = iff _ _ (turned u v) (turned v u)

@@ -20,13 +20,15 @@ use Rattle.sheet.specs.Sheet.{freqsOk}
 use Rattle.sheet.specs.Refusal.{passing, refusal}
 use Rattle.sheet.proofs.Accepted.{accepted, refusal-most}
 use Rattle.rules.specs.Job.{Job, jobOf, struck, unstruck}
-use Rattle.rules.specs.Layers.{layerOf, InLink}
-use Rattle.rules.specs.Pairs.{joins}
-use Rattle.rules.specs.Parts.{Parts}
-use Rattle.rules.specs.Plans.{placeOf, hasFreq, vertexOf, inLists, pairKept, linkKept, keeps, cellsOf, keepsSheet}
+use Rattle.pair_test.specs.Layers.{layerOf, InLink}
+use Rattle.pair_test.specs.Pairs.{zeroOrMore, spare}
+use Rattle.pair_test.specs.Parts.{Parts}
+use Rattle.rules.specs.Plans.{placeOf, hasFreq, vertexOf, inLists, spareTaken, pairKept, linkKept, keeps, cellsOf}
+use Rattle.rules.specs.Plans.{keepsSheet}
 use Rattle.rules.specs.Plans.{clear, keepsJob, yesNo, checked}
-use Rattle.rules.proofs.Laws.{layer-of, layer-in, in-link-lt, vertex-in, listed-at, parts-of}
-use Rattle.rules.proofs.Pairing.{joins-turned}
+use Rattle.pair_test.proofs.Laws.{layer-of, layer-in, in-link-lt, parts-of}
+use Rattle.rules.proofs.Laws.{vertex-in, listed-at}
+use Rattle.pair_test.proofs.Pairing.{spare-turned}
 use Rattle.cliques.specs.Graph.{Graph, Clique, Layers}
 use Rattle.cliques.specs.Listing.{byLayer}
 use Rattle.cliques.proofs.Listing.{clique-any, by-layer-clique, by-layer-at}
@@ -104,7 +106,7 @@ module _ {sheet fs rs ps : List ℕ} {k n q t : ℕ} (P : Parts sheet fs rs ps k
     there-back l h = vertex-back l (c l) h (in-link l h) .0
 
     clique-pair : (a b : ℕ) → a < k → b < k → (a ≡ b → ⊥) → pairKept sheet fs rs ps q (λ l. freq fs (c l)) a b ≡ true
-    unfolding pairKept
+    unfolding pairKept spareTaken
     clique-pair a b x y ne =
         let g = adjacent-out sheet fs rs ps k n q (c a) (c b)
         (C .joined a b (omega arith) x (omega arith) y ne) .allowed in
@@ -127,8 +129,8 @@ module _ {sheet fs rs ps : List ℕ} {k n q t : ℕ} (P : Parts sheet fs rs ps k
     unfolding keeps
     kept-list l h = listed-at sheet fs k f l (and-l (all k (inLists sheet fs f)) _ K) h
 
-    kept-pair : (a b : ℕ) → a < b → b < k → joins sheet fs rs ps q a b (vs a) (vs b) ≡ true
-    unfolding keeps linkKept pairKept
+    kept-pair : (a b : ℕ) → a < b → b < k → zeroOrMore (spare sheet fs rs ps q a b (vs a) (vs b)) ≡ true
+    unfolding keeps linkKept pairKept spareTaken
     kept-pair a b l h =
         let x = all-out k (linkKept sheet fs rs ps k q f) (and-r (all k (inLists sheet fs f)) _ K) a (omega arith) in
         let y = all-out k (λ b. leb b a || pairKept sheet fs rs ps q f a b) x b h in
@@ -143,9 +145,10 @@ module _ {sheet fs rs ps : List ℕ} {k n q t : ℕ} (P : Parts sheet fs rs ps k
     kept-lt : (l : ℕ) → l < k → vs l < n
     kept-lt l h = in-link-lt sheet k n (P .links) l (vs l) h (vertex-in sheet fs l (f l) (kept-list l h))
 
-    kept-joins : (i j : ℕ) → i < k → j < k → (i ≡ j → ⊥) → Dec (i < j) → joins sheet fs rs ps q i j (vs i) (vs j) ≡ true
-    kept-joins i j h g ne (yes l) = kept-pair i j l g
-    kept-joins i j h g ne (no l) = joins-turned sheet fs rs ps q i j (vs i) (vs j) ne
+    kept-allowed : (i j : ℕ) → i < k → j < k → (i ≡ j → ⊥) → Dec (i < j)
+        → zeroOrMore (spare sheet fs rs ps q i j (vs i) (vs j)) ≡ true
+    kept-allowed i j h g ne (yes l) = kept-pair i j l g
+    kept-allowed i j h g ne (no l) = ap zeroOrMore (spare-turned sheet fs rs ps q i j (vs i) (vs j) ne)
         ∙ kept-pair j i (omega (arith, ne)) h
 
     pub keeps-clique : Clique G 0 (whole n) vs
@@ -154,13 +157,13 @@ module _ {sheet fs rs ps : List ℕ} {k n q t : ℕ} (P : Parts sheet fs rs ps k
       at = λ l a h. record { lt = kept-lt l h; live = lt-ltb (vs l) n (kept-lt l h); cl = kept-layer l h };
       joined = λ i j a h b g ne. adjacent-in sheet fs rs ps k n q (vs i) (vs j) (kept-lt i h) (kept-lt j g)
           (λ e. ne (sym (kept-layer i h) ∙ e ∙ kept-layer j g))
-          (rw (kept-layer i h, kept-layer j g) (kept-joins i j h g ne (decLt i j)));
+          (rw (kept-layer i h, kept-layer j g) (kept-allowed i j h g ne (decLt i j)));
     }
 
   -- only the first k entries of an assignment are read
   pub keeps-same : (f g : ℕ → ℕ) → ((l : ℕ) → l < k → f l ≡ g l)
       → keeps sheet fs rs ps k q f ≡ keeps sheet fs rs ps k q g
-  unfolding keeps inLists linkKept pairKept
+  unfolding keeps inLists linkKept pairKept spareTaken
   keeps-same f g h = ap₂ (λ a b. a && b)
       (all-same k _ _ (λ l i. ap (hasFreq sheet fs l) (h l i)))
       (all-same k _ _ (λ a i. all-same k _ _ (λ b l. rw (h a i, h b l))))

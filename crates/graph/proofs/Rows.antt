@@ -15,11 +15,12 @@ use Rattle.sheet_rows.specs.Rows.{linkFirst, linkCount, freq, ruleA, ruleB}
 use Rattle.sheet.proofs.Links.{link-in, link-some}
 use Rattle.sheet.specs.Sheet.{qOf, freqPart, rulePart, pairPart}
 use Rattle.rules.specs.Job.{jobOf}
-use Rattle.rules.specs.Layers.{layerOf, InLink}
-use Rattle.rules.specs.Pairs.{ofLinks, differ, allows, joins}
-use Rattle.rules.specs.Parts.{LinkRows, Parts}
-use Rattle.rules.proofs.Laws.{layer-of, layer-in, in-link-lt, link-test, rule-links}
-use Rattle.rules.proofs.Pairing.{of-in, of-not, joins-own, joins-turn, joins-past, joins-yet}
+use Rattle.pair_test.specs.Layers.{layerOf, InLink}
+use Rattle.pair_test.specs.Pairs.{zeroOrMore, ofLinks, spareFree, spareRow, spare}
+use Rattle.pair_test.specs.Parts.{LinkRows, Parts}
+use Rattle.pair_test.proofs.Laws.{layer-of, layer-in, in-link-lt, link-test, rule-links}
+use Rattle.pair_test.proofs.Pairing.{of-in, of-not, spare-own, spare-turn, spare-past, spare-yet}
+use Rattle.pair_test.proofs.Numbers.{free-allowed}
 use Rattle.rows.specs.Rows.{setAt, rowAt, Begins, Outside, Put}
 use Rattle.rows.proofs.Rows.{outside-then, outside-wide}
 use Rattle.cliques.specs.declared.Place.{Place}
@@ -89,13 +90,13 @@ among sheet k n u v e = and-r (ltb u n) _ (and-l (ltb u n && ltb v n) _ e)
 -- and, its own frequency aside, adjacent to them
 separated-row : (sheet fs rs ps : List ℕ) (k n u : ℕ)
     → separated fs n u (linksDiffer sheet k n u) ≡ adjacent sheet fs rs ps k n 0 u
-unfolding adjacent joins differ onFreq sharing _∖_
+unfolding adjacent spare onFreq sharing _∖_
 separated-row sheet fs rs ps k n u = fun-ext (λ v. bool (linksDiffer sheet k n u v) (there v) (λ e. rw e))
   where
     there : (v : ℕ) → linksDiffer sheet k n u v ≡ true
         → linksDiffer sheet k n u v && not (ltb v n && eqb (freq fs v) (freq fs u))
-        ≡ linksDiffer sheet k n u v && not (eqb (freq fs u) (freq fs v))
-    there v e = rw (e, among sheet k n u v e, eqb-turned (freq fs u) (freq fs v))
+        ≡ linksDiffer sheet k n u v && zeroOrMore (spareFree fs u v)
+    there v e = rw (e, among sheet k n u v e, free-allowed fs u v, eqb-turned (freq fs u) (freq fs v))
 
 pub separated-built : {w graph n : ℕ} {p₀ p p′ : List ℕ} (sheet fs rs ps : List ℕ) (k : ℕ)
     → Built (linksDiffer sheet k n) w graph n p₀ p → Rewritten (separated fs n) 0 n w graph n p p′
@@ -125,7 +126,7 @@ module _ {sheet fs rs ps : List ℕ} {k n q t : ℕ} (P : Parts sheet fs rs ps k
   adj = adjacent sheet fs rs ps k n
 
   abbrev allow : ℕ → ℕ → ℕ → Bool
-  allow = allows sheet fs rs ps
+  allow j u v = zeroOrMore (spareRow sheet fs rs ps j u v)
 
   -- a link's vertices are a stretch, and its layer
   stretch-layer : (l v : ℕ) → l < k → v < n → of l v ≡ eqb l (layerOf sheet k v)
@@ -144,7 +145,7 @@ module _ {sheet fs rs ps : List ℕ} {k n q t : ℕ} (P : Parts sheet fs rs ps k
 
   -- two vertices of different links: what the pair test says is whether they are adjacent
   test-is : (m u v : ℕ) (x : Bool) → u < n → v < n → (layerOf sheet k u ≡ layerOf sheet k v → ⊥)
-      → joins sheet fs rs ps m (layerOf sheet k u) (layerOf sheet k v) u v ≡ x → adj m u v ≡ x
+      → zeroOrMore (spare sheet fs rs ps m (layerOf sheet k u) (layerOf sheet k v) u v) ≡ x → adj m u v ≡ x
   unfolding adjacent
   test-is m u v x a b ne e = rw (differ-in sheet k n u v a b ne) e
 
@@ -153,7 +154,7 @@ module _ {sheet fs rs ps : List ℕ} {k n q t : ℕ} (P : Parts sheet fs rs ps k
       → ofLinks rs (layerOf sheet k v) (layerOf sheet k u) j ≡ false
       → adj j u v ≡ adj (j + 1) u v
   unfolding adjacent
-  same-test j u v e f = rw (joins-past sheet fs rs ps j (layerOf sheet k u) (layerOf sheet k v) u v e f)
+  same-test j u v e f = rw (spare-past sheet fs rs ps j (layerOf sheet k u) (layerOf sheet k v) u v e f)
 
   module _ (j : ℕ) (b : j < q) where
     abbrev x : ℕ
@@ -176,7 +177,7 @@ module _ {sheet fs rs ps : List ℕ} {k n q t : ℕ} (P : Parts sheet fs rs ps k
     ruled-side : (t : Bool) (l m : ℕ) → m < k → (l ≡ m → ⊥) → (u : ℕ) → u < n → l ≡ layerOf sheet k u → (said : Set)
         → ((v : ℕ) → allowed fs ps (sideOf sheet rs j t l m) u v ≡ of m v && said v)
         → ((v : ℕ) → m ≡ layerOf sheet k v
-        → joins sheet fs rs ps (j + 1) (layerOf sheet k u) (layerOf sheet k v) u v ≡ said v)
+        → zeroOrMore (spare sheet fs rs ps (j + 1) (layerOf sheet k u) (layerOf sheet k v) u v) ≡ said v)
         → ((v : ℕ) → (m ≡ layerOf sheet k v → ⊥) → (ofLinks rs (layerOf sheet k u) (layerOf sheet k v) j ≡ false)
         × (ofLinks rs (layerOf sheet k v) (layerOf sheet k u) j ≡ false))
         → underRule fs ps (sideOf sheet rs j t l m) u (adj j u) ≡ adj (j + 1) u
@@ -198,8 +199,8 @@ module _ {sheet fs rs ps : List ℕ} {k n q t : ℕ} (P : Parts sheet fs rs ps k
     ruled-a : (u : ℕ) → u < n → x ≡ layerOf sheet k u → underRule fs ps (sideOf sheet rs j false x y) u (adj j u)
         ≡ adj (j + 1) u
     ruled-a u h e = ruled-side false x y y-link links-apart u h e (allow j u) (allowed-a sheet fs rs ps j u)
-        (λ v g. joins-own sheet fs rs ps j (layerOf sheet k u) (layerOf sheet k v) u v
-        (of-in rs (layerOf sheet k u) (layerOf sheet k v) j e g))
+        (λ v g. ap zeroOrMore (spare-own sheet fs rs ps j (layerOf sheet k u) (layerOf sheet k v) u v
+        (of-in rs (layerOf sheet k u) (layerOf sheet k v) j e g)))
         (λ v ne. (
           of-not rs (layerOf sheet k u) (layerOf sheet k v) j (λ _ g. ne g),
           of-not rs (layerOf sheet k v) (layerOf sheet k u) j (λ _ g. links-apart (e ∙ sym g)),
@@ -209,9 +210,9 @@ module _ {sheet fs rs ps : List ℕ} {k n q t : ℕ} (P : Parts sheet fs rs ps k
         ≡ adj (j + 1) u
     ruled-b u h e = ruled-side true y x x-link (λ g. links-apart (sym g)) u h e (λ v. allow j v u)
         (allowed-b sheet fs rs ps j u)
-        (λ v g. joins-turn sheet fs rs ps j (layerOf sheet k u) (layerOf sheet k v) u v
+        (λ v g. ap zeroOrMore (spare-turn sheet fs rs ps j (layerOf sheet k u) (layerOf sheet k v) u v
         (of-not rs (layerOf sheet k u) (layerOf sheet k v) j (λ i _. links-apart (i ∙ sym e)))
-        (of-in rs (layerOf sheet k v) (layerOf sheet k u) j g e))
+        (of-in rs (layerOf sheet k v) (layerOf sheet k u) j g e)))
         (λ v ne. (
           of-not rs (layerOf sheet k u) (layerOf sheet k v) j (λ g _. links-apart (g ∙ sym e)),
           of-not rs (layerOf sheet k v) (layerOf sheet k u) j (λ g _. ne g),
@@ -223,14 +224,14 @@ module _ {sheet fs rs ps : List ℕ} {k n q t : ℕ} (P : Parts sheet fs rs ps k
         (of-not rs _ _ j (λ g _. e g)) (of-not rs _ _ j (λ _ g. f g)))
 
     -- until rule j the vertices of its links are adjacent where their frequencies differ
-    yet-adjacent : (u v : ℕ) → InLink sheet x u → InLink sheet y v → differ fs u v ≡ true
+    yet-adjacent : (u v : ℕ) → InLink sheet x u → InLink sheet y v → zeroOrMore (spareFree fs u v) ≡ true
         → adj j u v ≡ true
     yet-adjacent u v iu iv d =
         let e = layer-of sheet k n (P .links) x u x-link iu in
         let f = layer-of sheet k n (P .links) y v y-link iv in
         adjacent-in sheet fs rs ps k n j u v (in-link-lt sheet k n (P .links) x u x-link iu)
         (in-link-lt sheet k n (P .links) y v y-link iv)
-        (λ g. links-apart (sym e ∙ g ∙ f)) (rw (e, f) (joins-yet P j u v b ∙ d))
+        (λ g. links-apart (sym e ∙ g ∙ f)) (rw (e, f) (ap zeroOrMore (spare-yet P j u v b) ∙ d))
 
     -- the rows of both its links before it is applied, and of the other link after the first
     pub full-a : {w graph : ℕ} {p : List ℕ} → ((u : ℕ) → u < n → rowAt p w graph u ≡ adj j u)

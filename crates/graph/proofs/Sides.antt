@@ -3,7 +3,7 @@
 use mathlib.Core.Path.{_≡_, refl, sym, ap, _∙_}
 use mathlib.Core.Bool.{Bool, true, false, not, _&&_}
 use mathlib.Core.List.{List}
-use Prim.Native.Nat.{ℕ, _+_, _-_, _*_, _≤_, _<_}
+use Prim.Native.Nat.{ℕ, _+_, _-_, _*_, _^_, _≤_, _<_}
 use native.Mathlib.Omega.{arith}
 use lib.Dec.{eqb, ltb}
 use lib.ListN.{length}
@@ -16,20 +16,14 @@ use Rattle.sheet_rows.specs.Rows.{ruleKind, ruleCount, ruleValue, pairFirst, pa
 use Rattle.sheet.specs.Sheet.{listed, pairOk, rulePairsOk, pairsOk}
 use Rattle.sheet.proofs.Links.{link-in}
 use Rattle.sheet.proofs.Rules.{rule-in}
-use Rattle.rules.specs.Pairs.{distance, listsPair, agree, ruleWidths, differ, allows}
-use Rattle.rules.specs.Parts.{Parts}
-use Rattle.rules.proofs.Laws.{rule-links, agree-plain, agree-equal}
+use Rattle.pair_test.specs.Pairs.{distance, listsPair, zeroOrMore, spareBy, ruleWidths, spareFree, spareRow}
+use Rattle.pair_test.specs.Parts.{Parts}
+use Rattle.pair_test.proofs.Laws.{rule-links, widths-small}
+use Rattle.pair_test.proofs.Numbers.{distance-turned, distance-same, by-plain, three-allowed, equal-barred}
+use Rattle.pair_test.proofs.Numbers.{free-allowed}
 use Rattle.graph.specs.declared.Side.{Side}
 use Rattle.graph.specs.Strikes.{stretch, sideOf, otherPlace, partners, clashing, allowed, SideFits}
 use Rattle.graph.proofs.Spans.{stretch-out}
-
-distance-turned : (x y : ℕ) → distance x y ≡ distance y x
-unfolding distance
-distance-turned x y = omega arith
-
-distance-same : (x : ℕ) → distance x x ≡ 0
-unfolding distance
-distance-same x = omega arith
 
 -- a test of the members of a stretch
 in-stretch : (a b : ℕ) (v : ℕ) (p q : Bool) → (a ≤ v → v < b → p ≡ q) → stretch a b v && p ≡ stretch a b v && q
@@ -47,10 +41,6 @@ lists-b : (ps : List ℕ) (first x base m v : ℕ) → first ≤ v
 unfolding partners
 lists-b ps first x base m v h = rw (le-leb first v h)
 
-agree-three : (kind value w d : ℕ) (l : Bool) → kind ≡ 3 → agree kind value w d l ≡ l
-unfolding agree
-agree-three kind value w d l e = rw e
-
 not-not : (b : Bool) → not (not b) ≡ b
 not-not true = refl
 not-not false = refl
@@ -65,16 +55,20 @@ module _ (fs ps : List ℕ) (s : Side) (u v : ℕ) where
 
   allowed-other : eqb (s .kind) 3 ≡ false
       → allowed fs ps s u v ≡ stretch (s .first) (s .end) v
-      && agree (s .kind) (s .value) (s .widths) (distance (freq fs u) (freq fs v)) false
+      && zeroOrMore (spareBy (s .kind) (s .value) (s .widths) (distance (freq fs u) (freq fs v)) false)
   unfolding allowed _∖_ clashing
-  allowed-other e = rw (e, not-not (agree (s .kind) (s .value) (s .widths) (distance (freq fs u) (freq fs v)) false))
+  allowed-other e = rw (
+    e,
+    not-not (zeroOrMore (spareBy (s .kind) (s .value) (s .widths)
+        (distance (freq fs u) (freq fs v)) false)),
+  )
 
 module _ (sheet fs rs ps : List ℕ) (j u v : ℕ) where
   -- rule row j from its link a, u being of a, and from its link b, u being of b
   pub allowed-a : allowed fs ps (sideOf sheet rs j false (ruleA rs j) (ruleB rs j)) u v
       ≡ stretch (linkFirst sheet (ruleB rs j)) (linkFirst sheet (ruleB rs j) + linkCount sheet (ruleB rs j)) v
-      && allows sheet fs rs ps j u v
-  unfolding allows ruleWidths
+      && zeroOrMore (spareRow sheet fs rs ps j u v)
+  unfolding spareRow ruleWidths
   allowed-a =
       let first = linkFirst sheet (ruleB rs j) in
       let end = first + linkCount sheet (ruleB rs j) in
@@ -83,9 +77,10 @@ module _ (sheet fs rs ps : List ℕ) (j u v : ℕ) where
       bool (eqb (ruleKind rs j) 3)
       (λ e. allowed-three fs ps s u v e ∙ in-stretch first end v _ _ (λ l h.
       lists-a ps first (u - linkFirst sheet (ruleA rs j)) (ruleValue rs j) (ruleCount rs j) v l
-      ∙ sym (agree-three (ruleKind rs j) (ruleValue rs j) _ d _ (eqb-true _ _ e))))
+      ∙ sym (three-allowed (ruleKind rs j) (ruleValue rs j) _ d _ (eqb-true _ _ e))))
       (λ e. allowed-other fs ps s u v e ∙ in-stretch first end v _ _ (λ l h.
-      agree-plain (ruleKind rs j) (ruleValue rs j) _ d _ _ (λ q. clash (eqb (ruleKind rs j) 3) (eq-eqb _ _ q) e)))
+      ap zeroOrMore
+      (by-plain (ruleKind rs j) (ruleValue rs j) _ d _ _ (λ q. clash (eqb (ruleKind rs j) 3) (eq-eqb _ _ q) e))))
 
   widths-turned : linkWidth sheet (ruleB rs j) + linkWidth sheet (ruleA rs j) ≡ ruleWidths sheet rs j
   unfolding ruleWidths
@@ -93,8 +88,8 @@ module _ (sheet fs rs ps : List ℕ) (j u v : ℕ) where
 
   pub allowed-b : allowed fs ps (sideOf sheet rs j true (ruleB rs j) (ruleA rs j)) u v
       ≡ stretch (linkFirst sheet (ruleA rs j)) (linkFirst sheet (ruleA rs j) + linkCount sheet (ruleA rs j)) v
-      && allows sheet fs rs ps j v u
-  unfolding allows
+      && zeroOrMore (spareRow sheet fs rs ps j v u)
+  unfolding spareRow
   allowed-b =
       let first = linkFirst sheet (ruleA rs j) in
       let end = first + linkCount sheet (ruleA rs j) in
@@ -103,12 +98,13 @@ module _ (sheet fs rs ps : List ℕ) (j u v : ℕ) where
       bool (eqb (ruleKind rs j) 3)
       (λ e. allowed-three fs ps s u v e ∙ in-stretch first end v _ _ (λ l h.
       lists-b ps first (u - linkFirst sheet (ruleB rs j)) (ruleValue rs j) (ruleCount rs j) v l
-      ∙ sym (agree-three (ruleKind rs j) (ruleValue rs j) _ d _ (eqb-true _ _ e))))
+      ∙ sym (three-allowed (ruleKind rs j) (ruleValue rs j) _ d _ (eqb-true _ _ e))))
       (λ e. allowed-other fs ps s u v e ∙ in-stretch first end v _ _ (λ l h.
-      ap (λ (x : ℕ). agree (ruleKind rs j) (ruleValue rs j) (s .widths) x false)
+      ap zeroOrMore
+      (ap (λ (x : ℕ). spareBy (ruleKind rs j) (ruleValue rs j) (s .widths) x false)
       (distance-turned (freq fs u) (freq fs v))
-      ∙ ap (λ (w : ℕ). agree (ruleKind rs j) (ruleValue rs j) w d false) widths-turned
-      ∙ agree-plain (ruleKind rs j) (ruleValue rs j) _ d _ _ (λ q. clash (eqb (ruleKind rs j) 3) (eq-eqb _ _ q) e)))
+      ∙ ap (λ (w : ℕ). spareBy (ruleKind rs j) (ruleValue rs j) w d false) widths-turned
+      ∙ by-plain (ruleKind rs j) (ruleValue rs j) _ d _ _ (λ q. clash (eqb (ruleKind rs j) 3) (eq-eqb _ _ q) e))))
 
 module _ {sheet fs rs ps : List ℕ} {k n q t : ℕ} (P : Parts sheet fs rs ps k n q t) (j : ℕ) (b : j < q) where
   -- both sides of the rule meet what the strikes ask
@@ -135,25 +131,31 @@ module _ {sheet fs rs ps : List ℕ} {k n q t : ℕ} (P : Parts sheet fs rs ps k
       )
 
   -- what a rule of kind 1 or 2 allows differs in frequency
-  pub allows-differ : (u v : ℕ) → (ruleKind rs j ≡ 3 → ⊥) → allows sheet fs rs ps j u v ≡ true → differ fs u v ≡ true
-  unfolding allows differ
-  allows-differ u v ne h = not-in (is-false (eqb (freq fs u) (freq fs v)) (λ e.
+  pub allows-differ : (u v : ℕ) → (ruleKind rs j ≡ 3 → ⊥) → zeroOrMore (spareRow sheet fs rs ps j u v) ≡ true
+      → zeroOrMore (spareFree fs u v) ≡ true
+  unfolding spareRow
+  allows-differ u v ne h = free-allowed fs u v ∙ not-in (is-false (eqb (freq fs u) (freq fs v)) (λ e.
       let x = eqb-true (freq fs u) (freq fs v) e in
       let z = rw (
-        agree-plain (ruleKind rs j) (ruleValue rs j) _ (distance (freq fs u) (freq fs v)) _ false ne,
+        by-plain (ruleKind rs j) (ruleValue rs j) _ (distance (freq fs u) (freq fs v)) _ false ne,
         x,
         distance-same (freq fs v),
       ) at h in
-      clash _ z (agree-equal (ruleKind rs j) (ruleValue rs j) _ ne (rule-in rs k q t j (P .rules) b .plain ne))))
+      clash _ z (equal-barred (ruleKind rs j) (ruleValue rs j) _ ne (rule-in rs k q t j (P .rules) b .plain ne .0))))
+
+  -- the numbers of such a rule
+  numbers-fit : (w : ℕ) → w ≡ ruleWidths sheet rs j → (ruleKind rs j ≡ 3 → ⊥) → (ruleValue rs j < 2 ^ 32) × (w < 2 ^ 32)
+  numbers-fit w e ne = (omega (arith, rule-in rs k q t j (P .rules) b .plain ne .1), omega (arith, widths-small P j b))
 
   pub fits-a : SideFits fs ps n (sideOf sheet rs j false (ruleA rs j) (ruleB rs j))
-  unfolding otherPlace
+  unfolding otherPlace ruleWidths
   fits-a = let o = rule-links P j b in record {
     freqs = P .freq-rows;
     own = link-in sheet k n (P .links) (ruleA rs j) (omega arith);
     order = omega arith;
     other = link-in sheet k n (P .links) (ruleB rs j) (o .1);
     pairs = λ e i l. let p = pair-places e i l in (p .0, omega arith);
+    plain = numbers-fit _ refl;
   }
 
   pub fits-b : SideFits fs ps n (sideOf sheet rs j true (ruleB rs j) (ruleA rs j))
@@ -164,4 +166,5 @@ module _ {sheet fs rs ps : List ℕ} {k n q t : ℕ} (P : Parts sheet fs rs ps k
     order = omega arith;
     other = link-in sheet k n (P .links) (ruleA rs j) (omega arith);
     pairs = λ e i l. let p = pair-places e i l in (p .0, omega arith);
+    plain = numbers-fit _ (widths-turned sheet fs rs ps j 0 0);
   }

@@ -14,7 +14,7 @@ use Rattle.sets.proofs.Tests.{iff, and-l, and-r, and-in, and-false}
 use Rattle.sets.proofs.Below.{first-lt, first-is}
 use Rattle.sets.proofs.Sets.{join-assoc}
 use Rattle.sheet_rows.specs.Rows.{freq, pairFirst, pairSecond}
-use Rattle.rules.specs.Pairs.{samePair, listsPair}
+use Rattle.pair_test.specs.Pairs.{samePair, listsPair}
 use Rattle.rows.specs.Rows.{setAt, rowAt, Outside, Put}
 use Rattle.rows.proofs.Rows.{row-inside, outside-none, outside-then, outside-wide, above, below}
 use Rattle.graph.specs.declared.Side.{Side}

@@ -6,19 +6,19 @@ use Prim.Native.Nat.{ℕ}
 use lib.Dec.{ltb, eqb}
 use Rattle.sheet.specs.Sheet.{kOf, nOf, qOf, freqPart, rulePart, pairPart}
 use Rattle.rules.specs.Job.{Job, struck}
-use Rattle.rules.specs.Layers.{layerOf}
-use Rattle.rules.specs.Pairs.{joins}
+use Rattle.pair_test.specs.Layers.{layerOf}
+use Rattle.pair_test.specs.Pairs.{zeroOrMore, spare}
 use Rattle.cliques.specs.Graph.{Graph}
 
 -- u and v are among the n vertices, "their links differ"
 unfoldable pub linksDiffer : List ℕ → ℕ → ℕ → ℕ → ℕ → Bool
 linksDiffer sheet k n u v = (ltb u n && ltb v n) && not (eqb (layerOf sheet k u) (layerOf sheet k v))
 
--- "Two vertices are adjacent when their links differ and the rule of the links, if any, allows the pair", which is what
--- the pair test says; over the sheet's sections, with k links, n vertices and q rules
+-- "Two vertices are adjacent when their links differ and the rule of the links, if any, allows the pair": the pair test
+-- gives "zero or more"; over the sheet's sections, with k links, n vertices and q rules
 unfoldable pub adjacent : List ℕ → List ℕ → List ℕ → List ℕ → ℕ → ℕ → ℕ → ℕ → ℕ → Bool
 adjacent sheet fs rs ps k n q u v =
-    linksDiffer sheet k n u v && joins sheet fs rs ps q (layerOf sheet k u) (layerOf sheet k v) u v
+    linksDiffer sheet k n u v && zeroOrMore (spare sheet fs rs ps q (layerOf sheet k u) (layerOf sheet k v) u v)
 
 -- the same of a sheet
 abbrev pub sheetEdge : List ℕ → ℕ → ℕ → Bool

@@ -2,13 +2,13 @@
 use mathlib.Core.Path.{_≡_}
 use mathlib.Core.Bool.{Bool, false, not, cond, _&&_}
 use mathlib.Core.List.{List}
-use Prim.Native.Nat.{ℕ, _+_, _-_, _*_, _≤_, _<_}
+use Prim.Native.Nat.{ℕ, _+_, _-_, _*_, _^_, _≤_, _<_}
 use lib.Dec.{ltb, leb, eqb}
 use lib.ListN.{length}
 use Rattle.sets.specs.Sets.{Set, _⊆_, _∩_, _∪_, _∖_}
 use Rattle.sheet_rows.specs.Rows.{freqBytes, pairBytes, linkFirst, linkCount, linkWidth, freq}
 use Rattle.sheet_rows.specs.Rows.{ruleKind, ruleCount, ruleValue, pairFirst, pairSecond}
-use Rattle.rules.specs.Pairs.{distance, samePair, listsPair, agree}
+use Rattle.pair_test.specs.Pairs.{distance, samePair, listsPair, zeroOrMore, spareBy}
 use Rattle.rows.specs.Rows.{rowAt, Outside}
 use Rattle.graph.specs.declared.Side.{Side}
 
@@ -50,7 +50,7 @@ partner ps turned first x i v = leb first v && cond turned (samePair ps (v - fir
 
 -- kinds 1 and 2: the vertices that such a rule does not allow with the frequency x
 unfoldable pub clashing : List ℕ → Side → ℕ → Set
-clashing fs s x v = not (agree (s .kind) (s .value) (s .widths) (distance x (freq fs v)) false)
+clashing fs s x v = not (zeroOrMore (spareBy (s .kind) (s .value) (s .widths) (distance x (freq fs v)) false))
 
 -- the vertices of the other link that the rule allows with u
 unfoldable pub allowed : List ℕ → List ℕ → Side → ℕ → Set
@@ -69,6 +69,10 @@ PairsFit ps s = (i : ℕ) → i < s .count →
     (pairBytes * (s .value + i) + pairBytes ≤ length ps)
     × (s .first + otherPlace ps (s .turned) (s .value + i) < s .end)
 
+-- the value of the rule and the widths are 32-bit numbers
+abbrev pub NumbersFit : Side → Type 0
+NumbersFit s = (s .value < 2 ^ 32) × (s .widths < 2 ^ 32)
+
 -- the vertices of both links are among n, and so are those that the pairs name
 pub record SideFits (fs ps : List ℕ) (n : ℕ) (s : Side) : Type 0 where
   pub freqs : freqBytes * n ≤ length fs
@@ -76,6 +80,7 @@ pub record SideFits (fs ps : List ℕ) (n : ℕ) (s : Side) : Type 0 where
   pub order : s .first ≤ s .end
   pub other : s .end ≤ n
   pub pairs : s .kind ≡ 3 → PairsFit ps s
+  pub plain : (s .kind ≡ 3 → ⊥) → NumbersFit s
 
 -- each row that the rule changes has every vertex of the other link that it allows, where it is of kind 1 or 2: such a
 -- rule strikes, and one of kind 3 writes the other link's part of a row anew

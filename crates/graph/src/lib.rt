@@ -10,7 +10,7 @@ ghost use Prim.Native.Nat.{ℕ, _+_, _<_};
 ghost use lib.ListN.{length};
 ghost use Rattle.rows.specs.Rows.{rowAt};
 ghost use Rattle.rules.specs.Job.{jobOf};
-ghost use Rattle.rules.specs.Parts.{RuleRow, Sections};
+ghost use Rattle.pair_test.specs.Parts.{RuleRow, Sections};
 ghost use Rattle.graph.specs.Graph.{adjacent, edge};
 ghost use Rattle.graph.specs.Rows.{RowsFit, RowsAsked, Built};
 use buckets::separate_rows;

@@ -5,7 +5,7 @@ ghost use lib.ListN.{length};
 ghost use Rattle.sets.specs.Sets.{Set, _∖_, whole};
 ghost use Rattle.sheet_rows.specs.Rows.{linkFirst, linkCount};
 ghost use Rattle.rows.specs.Rows.{setAt, rowAt, Begins, Reads, Put};
-ghost use Rattle.rules.specs.Parts.{LinkRows};
+ghost use Rattle.pair_test.specs.Parts.{LinkRows};
 ghost use Rattle.graph.specs.Graph.{linksDiffer};
 ghost use Rattle.graph.specs.Rows.{RowsFit, Built};
 ghost use Rattle.graph.specs.Strikes.{stretch, Rewritten};

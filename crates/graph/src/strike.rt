@@ -7,12 +7,13 @@ ghost use Rattle.sheet_rows.specs.Rows.{HasRow, HasLink, freqBytes, ruleBytes, 
 ghost use Rattle.rows.specs.Rows.{setAt, rowAt, Put};
 ghost use Rattle.graph.specs.Rows.{RowsFit};
 ghost use Rattle.graph.specs.Strikes.{stretch, sideOf, ownPlace, otherPlace, partner, partners, clashing};
-ghost use Rattle.graph.specs.Strikes.{allowed, underRule, PairsFit, SideFits, Full, Rewritten};
+ghost use Rattle.graph.specs.Strikes.{allowed, underRule, NumbersFit, PairsFit, SideFits, Full, Rewritten};
 use crate::Side;
 use crate::span::take_span;
 use cliques::Place;
-use rules::agree;
-use rules::distance;
+use pair_test::distance;
+use pair_test::is_allowed;
+use pair_test::spare_by;
 use sheet_rows::freq;
 use sheet_rows::link_count;
 use sheet_rows::link_first;
@@ -43,13 +44,25 @@ pub fn side(sheet: &[u8], rs: &[u8], j: usize, turned: bool, a: usize, b: usize)
     }
 }
 
-// Vertex v is struck from row `to`, where a rule of kind 1 or 2 does not allow it with the frequency x.
+// Whether a rule of kind 1 or 2 does not allow vertex v with the frequency x.
+fn clashes(fs: &[u8], s: Side, x: usize, v: usize) -> bool
+    requires { ⌜ HasRow freqBytes (now fs) v × NumbersFit s × (x < 2 ^ 32) ⌝ }
+    ensures { λ r. ⌜ r ≡ clashing (now (fs .entry)) s x v ⌝ }
+{
+    let value = s.value as u32;
+    let widths = s.widths as u32;
+    let apart = distance(x, freq(fs, v)) as u32;
+    !is_allowed(spare_by(s.kind, value, widths, apart, false))
+}
+
+// Vertex v is struck from row `to`, where it clashes with the frequency x.
 fn strike_one(part: &mut [u64], w: usize, to: usize, fs: &[u8], s: Side, x: usize, v: usize)
-    requires { ⌜ (to + w ≤ length (now part)) × (v < 64 * w) × HasRow freqBytes (now fs) v ⌝ }
+    requires { ⌜ (to + w ≤ length (now part)) × (v < 64 * w) × HasRow freqBytes (now fs) v × NumbersFit s
+        × (x < 2 ^ 32) ⌝ }
     ensures { λ r. ⌜ Put (setAt (now (part .entry)) w to ∖ (just v ∩ clashing (now (fs .entry)) s x))
         w to (now (part .entry)) (now (part .exit)) ⌝ }
 {
-    if agree(s.kind, s.value, s.widths, distance(x, freq(fs, v)), false) {
+    if !clashes(fs, s, x, v) {
         return;
     }
     rows::remove(part, w, to, v);
@@ -58,7 +71,7 @@ fn strike_one(part: &mut [u64], w: usize, to: usize, fs: &[u8], s: Side, x: usiz
 // The other link's vertices that a rule of kind 1 or 2 does not allow with the frequency x are struck from row `to`.
 fn strike_near(part: &mut [u64], w: usize, to: usize, fs: &[u8], s: Side, x: usize)
     requires { ⌜ (to + w ≤ length (now part)) × (s .first ≤ s .end) × (s .end ≤ 64 * w)
-        × (freqBytes * s .end ≤ length (now fs)) ⌝ }
+        × (freqBytes * s .end ≤ length (now fs)) × NumbersFit s × (x < 2 ^ 32) ⌝ }
     ensures { λ r. ⌜ Put
         (setAt (now (part .entry)) w to
         ∖ (stretch (s .first) (s .end) ∩ clashing (now (fs .entry)) s x))

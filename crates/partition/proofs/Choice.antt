@@ -7,7 +7,7 @@ use native.Mathlib.Omega.{arith}
 use lib.Dec.{eqb, leb}
 use Rattle.sets.proofs.Tests.{bool}
 use Rattle.sheet_rows.specs.Rows.{linkFirst}
-use Rattle.rules.specs.Layers.{layerOf}
+use Rattle.pair_test.specs.Layers.{layerOf}
 use Rattle.partition.specs.Choice.{classList}
 use Rattle.partition.specs.Partition.{built, classes}
 

@@ -12,14 +12,14 @@ ghost use lib.Dec.{ltb};
 ghost use lib.ListN.{length};
 ghost use Rattle.sets.specs.Below.{all};
 ghost use Rattle.sheet_rows.specs.Rows.{HasLinks};
-ghost use Rattle.rules.specs.Layers.{layerOf};
+ghost use Rattle.pair_test.specs.Layers.{layerOf};
 ghost use Rattle.partition.specs.Partition.{classOf, layersOf};
 ghost use Rattle.partition.specs.Choice.{classList};
 ghost use Rattle.partition.specs.Words.{Alone, AllAlone, Tested};
 pub use classes::build_classes;
 use cliques::Place;
 pub use masks::put_masks;
-use rules::layer;
+use pair_test::layer;
 
 // Choice 0: the class of a vertex is its layer, among k links.
 pub fn put_layers(sheet: &[u8], n: usize, k: usize, cls: &mut [u8])

@@ -5,13 +5,14 @@ use mathlib.Core.List.{List}
 use mathlib.Core.Bool.{Bool, true, false, not, _&&_, _||_}
 use lib.ListN.{length, getD}
 use lib.Dec.{leb, eqb}
+use lib.IntN.{ℤ}
 use Rattle.sets.specs.Below.{all, any, first}
 use Rattle.channels.specs.Channels.{channelsOk, onAir}
 use Rattle.sheet_rows.specs.Rows.{linkFirst, linkCount, freq}
 use Rattle.sheet.specs.Sheet.{kOf, qOf, freqPart, rulePart, pairPart}
 use Rattle.sheet.specs.Refusal.{causeNumber, passing, refusal}
+use Rattle.pair_test.specs.Pairs.{zeroOrMore, spare}
 use Rattle.rules.specs.Job.{Job}
-use Rattle.rules.specs.Pairs.{joins}
 use Rattle.rules.specs.declared.CheckAnswer.{CheckAnswer}
 use Rattle.rules.specs.declared.CheckAnswer.the-variants.{No, Yes, Few, BadChannels, Refused}
 
@@ -31,15 +32,18 @@ vertexOf s fs l x = linkFirst s l + placeOf fs (linkFirst s l) (linkCount s l) x
 unfoldable pub inLists : List ℕ → List ℕ → (ℕ → ℕ) → ℕ → Bool
 inLists s fs cells l = hasFreq s fs l (cells l)
 
--- the pair test allows the frequencies taken for links a and b
-unfoldable pub pairKept : List ℕ → List ℕ → List ℕ → List ℕ → ℕ → (ℕ → ℕ) → ℕ → ℕ → Bool
-pairKept s fs rs ps q cells a b = joins s fs rs ps q a b (vertexOf s fs a (cells a)) (vertexOf s fs b (cells b))
+-- what the frequencies taken for links a and b have to spare, and whether they are allowed: "zero or more means allowed"
+unfoldable pub spareTaken : List ℕ → List ℕ → List ℕ → List ℕ → ℕ → (ℕ → ℕ) → ℕ → ℕ → ℤ
+spareTaken s fs rs ps q cells a b = spare s fs rs ps q a b (vertexOf s fs a (cells a)) (vertexOf s fs b (cells b))
 
--- it allows that of link a with those of all higher links
+unfoldable pub pairKept : List ℕ → List ℕ → List ℕ → List ℕ → ℕ → (ℕ → ℕ) → ℕ → ℕ → Bool
+pairKept s fs rs ps q cells a b = zeroOrMore (spareTaken s fs rs ps q cells a b)
+
+-- so are that of link a and those of all higher links
 unfoldable pub linkKept : List ℕ → List ℕ → List ℕ → List ℕ → ℕ → ℕ → (ℕ → ℕ) → ℕ → Bool
 linkKept s fs rs ps k q cells a = all k (λ b. leb b a || pairKept s fs rs ps q cells a b)
 
--- an assignment that "keeps every rule": each frequency is of its link's list, and the pair test allows every two
+-- an assignment that "keeps every rule": each frequency is of its link's list, and every two are allowed
 unfoldable pub keeps : List ℕ → List ℕ → List ℕ → List ℕ → ℕ → ℕ → (ℕ → ℕ) → Bool
 keeps s fs rs ps k q cells = all k (inLists s fs cells) && all k (linkKept s fs rs ps k q cells)
 

@@ -1,18 +1,14 @@
-// The rules of an accepted sheet: the layer of a vertex, the pair test, and the plan check.
-// The contracts cite `Layers`, `Pairs`, `Plans` and `Asked`; `Job` is what is planned and checked.
-mod layers;
-mod pairs;
-mod parts;
+// The plan check: whether cells keep every rule of a job.
+// The contracts cite `Plans` and `Asked`; `Job` is what is planned and checked.
 mod plans;
-mod seek;
 
 ghost use mathlib.Core.Path.{_≡_};
+ghost use Rattle.sheet.specs.Refusal.{refusal};
 ghost use Rattle.rules.specs.Job.{jobWith};
 ghost use Rattle.rules.specs.Plans.{checked, checkNumber};
 use channels::is_channel_list;
-pub use layers::layer;
-pub use pairs::agree;
-pub use pairs::distance;
+pub use plans::cells_listed;
+pub use plans::cells_spare;
 use plans::keeps_job;
 use sheet::Reading;
 use sheet::cause_number;
@@ -41,14 +37,12 @@ pub fn check_number(a: CheckAnswer) -> u32
     }
 }
 
-// The plan check, for any bytes, any list of channels and any cells: it reads the first k cells.
-pub fn check_plan(s: &[u8], channels: &[u8], cells: &[u32]) -> CheckAnswer
+// The plan check of a sheet that was accepted: it reads the first k cells.
+pub fn check_accepted(s: &[u8], channels: &[u8], cells: &[u32]) -> CheckAnswer
+    requires { ⌜ refusal (now s) ≡ 0 ⌝ }
     ensures { λ r. ⌜ checkNumber r
         ≡ checked (jobWith (now (s .entry)) (now (channels .entry))) (now (cells .entry)) ⌝ }
 {
-    if let Reading::Refused(cause) = check_sheet(s) {
-        return CheckAnswer::Refused(cause);
-    }
     if cells.len() < links_of(s) {
         return CheckAnswer::Few;
     }
@@ -60,4 +54,15 @@ pub fn check_plan(s: &[u8], channels: &[u8], cells: &[u32]) -> CheckAnswer
     } else {
         CheckAnswer::No
     }
+}
+
+// The plan check, for any bytes, any list of channels and any cells.
+pub fn check_plan(s: &[u8], channels: &[u8], cells: &[u32]) -> CheckAnswer
+    ensures { λ r. ⌜ checkNumber r
+        ≡ checked (jobWith (now (s .entry)) (now (channels .entry))) (now (cells .entry)) ⌝ }
+{
+    if let Reading::Refused(cause) = check_sheet(s) {
+        return CheckAnswer::Refused(cause);
+    }
+    check_accepted(s, channels, cells)
 }

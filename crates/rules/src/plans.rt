@@ -8,13 +8,17 @@ ghost use Rattle.sheet_rows.specs.Rows.{freqBytes};
 ghost use Rattle.sheet.specs.Sheet.{kOf, qOf, rulePart};
 ghost use Rattle.sheet.specs.Accepted.{Accepted};
 ghost use Rattle.channels.specs.Channels.{channelsOk};
+ghost use Rattle.pair_test.specs.Layers.{InLink};
+ghost use Rattle.pair_test.specs.Asked.{Sought};
 ghost use Rattle.rules.specs.Job.{jobWith};
 ghost use Rattle.rules.specs.Plans.{placeOf, cellsOf, clear, keepsSheet, keepsJob};
-ghost use Rattle.rules.specs.Asked.{Taken, Sought, inList, vertexIn, cellListed, cellsKeep, cellKeeps};
-use crate::pairs::joined;
-use crate::parts::freq_part;
-use crate::seek::seek_rule;
+ghost use Rattle.rules.specs.Asked.{Taken, inList, vertexIn, cellListed, cellsSpare, cellsKeep, cellKeeps};
 use channels::is_on_air;
+use pair_test::freq_part;
+use pair_test::is_allowed;
+use pair_test::seek_rule;
+use pair_test::spare;
+use pair_test::spare_at;
 use sheet::links_of;
 use sheet_rows::freq;
 use sheet_rows::link_count;
@@ -69,7 +73,7 @@ fn cell_listed(s: &[u8], cells: &[u32], l: usize) -> bool
 }
 
 // Whether each of the first k cells is in its link's list.
-fn cells_listed(s: &[u8], cells: &[u32]) -> bool
+pub fn cells_listed(s: &[u8], cells: &[u32]) -> bool
     requires { ⌜ Accepted (now s) × (kOf (now s) ≤ length (now cells)) ⌝ }
     ensures { λ r. ⌜ r ≡ all (kOf (now (s .entry))) (cellListed (now (s .entry)) (now (cells .entry))) ⌝ }
 {
@@ -84,18 +88,36 @@ fn cells_listed(s: &[u8], cells: &[u32]) -> bool
     true
 }
 
-// Whether the pair test allows the cells of links a and b, whose rule, if there is one, is row j.
+// The vertex of the cell of link l.
+fn cell_vertex(s: &[u8], cells: &[u32], l: usize) -> usize
+    requires { ⌜ Taken (now s) (now cells) × (l < kOf (now s)) ⌝ }
+    ensures { λ r. ⌜ (r ≡ vertexIn (now (s .entry)) l (cellsOf (now (cells .entry)) l)) × InLink (now (s .entry)) l r ⌝ }
+{
+    vertex(s, l, wide(cells[l]))
+}
+
+// What the cells of links a and b have to spare.
+pub fn cells_spare(s: &[u8], cells: &[u32], a: usize, b: usize) -> i64
+    requires { ⌜ Taken (now s) (now cells) × (a ≡ b → ⊥) × (a < kOf (now s)) × (b < kOf (now s)) ⌝ }
+    ensures { λ r. ⌜ r ≡ cellsSpare (now (s .entry)) (now (cells .entry)) a b ⌝ }
+{
+    let u = cell_vertex(s, cells, a);
+    let v = cell_vertex(s, cells, b);
+    spare(s, a, b, u, v)
+}
+
+// Whether the cells of links a and b are allowed. Their rule, if there is one, is row j.
 fn pair_kept(s: &[u8], cells: &[u32], a: usize, b: usize, j: usize) -> bool
     requires { ⌜ Taken (now s) (now cells) × (a < b) × (b < kOf (now s))
         × Sought (rulePart (now s)) (qOf (now s)) a b j ⌝ }
     ensures { λ r. ⌜ r ≡ cellsKeep (now (s .entry)) (now (cells .entry)) a b ⌝ }
 {
-    let u = vertex(s, a, wide(cells[a]));
-    let v = vertex(s, b, wide(cells[b]));
-    joined(s, j, a, b, u, v)
+    let u = cell_vertex(s, cells, a);
+    let v = cell_vertex(s, cells, b);
+    is_allowed(spare_at(s, j, a, b, u, v))
 }
 
-// Whether it allows the cell of link a with those of all higher links. The rules of link a begin at row `from`.
+// Whether the cell of link a is allowed with those of all higher links. The rules of link a begin at row `from`.
 fn link_kept(s: &[u8], cells: &[u32], a: usize, from: usize) -> bool
     requires { ⌜ Taken (now s) (now cells) × (a < kOf (now s)) × Sought (rulePart (now s)) (qOf (now s)) a 0 from ⌝ }
     ensures { λ r. ⌜ r ≡ cellKeeps (now (s .entry)) (now (cells .entry)) a ⌝ }
@@ -113,7 +135,7 @@ fn link_kept(s: &[u8], cells: &[u32], a: usize, from: usize) -> bool
     true
 }
 
-// Whether the pair test allows the cells of every two links.
+// Whether the cells of every two links are allowed.
 fn links_kept(s: &[u8], cells: &[u32]) -> bool
     requires { ⌜ Taken (now s) (now cells) ⌝ }
     ensures { λ r. ⌜ r ≡ all (kOf (now (s .entry))) (cellKeeps (now (s .entry)) (now (cells .entry))) ⌝ }

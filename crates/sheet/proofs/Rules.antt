@@ -5,13 +5,13 @@ use mathlib.Core.List.{List}
 use mathlib.Core.Bool.{Bool, true, false, cond, _&&_, _||_}
 use mathlib.Core.Logic.{_⊎_, inl, inr}
 use native.Mathlib.Omega.{arith}
-use lib.Dec.{eqb, ltb}
-use borrow.Author.Tests.{eqb-true, ltb-true, ne-eqb}
+use lib.Dec.{eqb, ltb, leb}
+use borrow.Author.Tests.{eqb-true, ltb-true, leb-true, ne-eqb}
 use Rattle.sets.specs.Below.{all, sumTo}
 use Rattle.sets.proofs.Tests.{and-out, or-case, below}
 use Rattle.sets.proofs.Below.{all-out, sum-in}
 use Rattle.sheet_rows.specs.Rows.{ruleA, ruleB, ruleKind, ruleCount, ruleValue}
-use Rattle.sheet.specs.Sheet.{before, plainOk, kindOk, only, listed, ruleRises, ruleRowOk, ruleOk, rulesOk}
+use Rattle.sheet.specs.Sheet.{mostKHz, before, plainOk, kindOk, only, listed, ruleRises, ruleRowOk, ruleOk, rulesOk}
 
 -- the row test at the running sum is the test of the row
 pub rule-row-is : (p : List ℕ) (k j sum : ℕ) (r : Bool) → sum ≡ sumTo j (listed p) → r ≡ ruleRowOk p k sum j
@@ -40,14 +40,14 @@ value-is p j sum h o = go (eqb (ruleKind p j) 3) h o
     go true h o = eqb-true (ruleValue p j) sum (and-out (ltb 0 (ruleCount p j)) (eqb (ruleValue p j) sum) h .1)
     go false h o = absurd (omega arith)
 
-value-some : (p : List ℕ) (j sum : ℕ) → kindOk (ruleKind p j) (ruleCount p j) (ruleValue p j) sum ≡ true
-    → (ruleKind p j ≡ 3 → ⊥) → 0 < ruleValue p j
+value-range : (p : List ℕ) (j sum : ℕ) → kindOk (ruleKind p j) (ruleCount p j) (ruleValue p j) sum ≡ true
+    → (ruleKind p j ≡ 3 → ⊥) → (0 < ruleValue p j) × (ruleValue p j ≤ mostKHz)
 unfolding kindOk plainOk
-value-some p j sum h ne =
+value-range p j sum h ne =
     let r = rw (ne-eqb (ruleKind p j) 3 ne) at h in
     let x = and-out (eqb (ruleKind p j) 1 || eqb (ruleKind p j) 2) _ r in
     let y = and-out (eqb (ruleCount p j) 0 && ltb 0 (ruleValue p j)) _ (x .1) in
-    ltb-true 0 (ruleValue p j) (and-out (eqb (ruleCount p j) 0) _ (y .0) .1)
+    (ltb-true 0 (ruleValue p j) (and-out (eqb (ruleCount p j) 0) _ (y .0) .1), leb-true (ruleValue p j) mostKHz (y .1))
 
 -- rule j comes after rule i by its links
 pub record After (p : List ℕ) (i j : ℕ) : Type 0 where
@@ -70,12 +70,12 @@ after-is p i j h =
         record { lower = omega arith; higher = λ _. ltb-true (ruleB p i) (ruleB p j) (x .1) }
 
 -- what an accepted section says of a rule: its links are among the k and after those of the rule before it, its value
--- is above 0 where it lists no pairs, and its pairs are among the t
+-- is in range where it lists no pairs, and its pairs are among the t
 pub record RuleIn (p : List ℕ) (k t j : ℕ) : Type 0 where
   pub order : ruleA p j < ruleB p j
   pub within : ruleB p j < k
   pub rises : 0 < j → After p (j - 1) j
-  pub plain : (ruleKind p j ≡ 3 → ⊥) → 0 < ruleValue p j
+  pub plain : (ruleKind p j ≡ 3 → ⊥) → (0 < ruleValue p j) × (ruleValue p j ≤ mostKHz)
   pub pairs : 0 < listed p j → ruleValue p j + listed p j ≤ t
 
 pub rule-in : (p : List ℕ) (k q t j : ℕ) → rulesOk p k q t ≡ true → j < q → RuleIn p k t j
@@ -93,7 +93,7 @@ rule-in p k q t j h l =
       within = ltb-true (ruleB p j) k (z .1);
       rises = λ o.
           rising o (or-case (eqb j 0) (before (ruleA p (j - 1)) (ruleB p (j - 1)) (ruleA p j) (ruleB p j)) (y .1));
-      plain = λ ne. value-some p j sum (x .1) ne;
+      plain = λ ne. value-range p j sum (x .1) ne;
       pairs = λ o.
           omega (arith, value-is p j sum (x .1) o, eqb-true (sumTo q (listed p)) t (w .1), sum-in q j (listed p) l);
     }

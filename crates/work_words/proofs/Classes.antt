@@ -12,7 +12,7 @@ use Rattle.sheet.specs.Sheet.{kOf, nOf}
 use Rattle.sheet.specs.Accepted.{Accepted}
 use Rattle.cliques.specs.Graph.{Layers}
 use Rattle.rules.specs.Job.{Job, unstruck}
-use Rattle.rules.proofs.Laws.{layer-in}
+use Rattle.pair_test.proofs.Laws.{layer-in}
 use Rattle.graph.specs.Graph.{linkOf, edge, graphOf}
 use Rattle.graph.proofs.Graph.{edge-sym, edge-out}
 use Rattle.partition.specs.Partition.{classOf, isPartition, Partition}

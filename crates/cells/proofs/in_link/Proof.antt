@@ -2,7 +2,7 @@
 use borrow.Author.Needs.{needs}
 use denote.Ref.{now}
 use native.Mathlib.Omega.{arith}
-use Rattle.rules.proofs.Laws.{link-there}
+use Rattle.pair_test.proofs.Laws.{link-there}
 use Rattle.cells.proofs.Links.{not-in-link, in-link-by}
 use Rattle.cells.proofs.in_link.Statement.{statement}
 use Rattle.cells.proofs.in_link.Tie as tie

@@ -1,7 +1,7 @@
 -- `graph::apply_rule` meets its contract. Both sides of the rule are written.
 use borrow.Author.Needs.{needs}
 use native.Mathlib.Omega.{arith}
-use Rattle.rules.proofs.Laws.{links-within}
+use Rattle.pair_test.proofs.Laws.{links-within}
 use Rattle.graph.proofs.Sides.{fits-a, fits-b}
 use Rattle.graph.proofs.Rows.{fit-same, full-a, full-b, rule-built}
 use Rattle.graph.proofs.apply_rule.Statement.{statement}

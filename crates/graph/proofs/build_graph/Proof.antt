@@ -4,7 +4,7 @@ use denote.Ref.{now}
 use mathlib.Core.Path.{refl}
 use Rattle.sheet.specs.Sheet.{tOf}
 use Rattle.sheet_rows.proofs.Rows.{part-from}
-use Rattle.rules.proofs.Laws.{parts-of}
+use Rattle.pair_test.proofs.Laws.{parts-of}
 use Rattle.graph.proofs.Rows.{built-edge}
 use Rattle.graph.proofs.build_graph.Statement.{statement}
 use Rattle.graph.proofs.build_graph.Tie as tie

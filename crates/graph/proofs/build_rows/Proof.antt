@@ -5,7 +5,7 @@ use mathlib.Core.Path.{_≡_}
 use native.Mathlib.Omega.{arith}
 use lib.ListN.{length}
 use Rattle.rows.proofs.Rows.{outside-none, outside-then}
-use Rattle.rules.proofs.Laws.{link-rows}
+use Rattle.pair_test.proofs.Laws.{link-rows}
 use Rattle.graph.specs.Graph.{adjacent}
 use Rattle.graph.specs.Rows.{RowsFit, Built}
 use Rattle.graph.proofs.Rows.{fit-same, separated-built}

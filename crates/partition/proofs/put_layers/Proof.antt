@@ -7,7 +7,7 @@ use native.Mathlib.Omega.{arith}
 use lib.ListN.{length, drop, length-set}
 use Rattle.sets.specs.Below.{tabulate}
 use Rattle.sets.proofs.Lists.{tab-none, tab-more, tab-done}
-use Rattle.rules.specs.Layers.{layerOf}
+use Rattle.pair_test.specs.Layers.{layerOf}
 use Rattle.partition.specs.Partition.{layersOf}
 use Rattle.partition.proofs.Choice.{layer-small}
 use Rattle.partition.proofs.put_layers.Statement.{statement}

@@ -2,7 +2,7 @@
 use borrow.Author.Needs.{needs}
 use mathlib.Core.Path.{refl, _∙_}
 use native.Mathlib.Omega.{arith}
-use Rattle.rules.proofs.Laws.{parts-of}
+use Rattle.pair_test.proofs.Laws.{parts-of}
 use Rattle.work_words.proofs.Cutting.{root-fits, may-strike, rows-stay}
 use Rattle.work_words.proofs.Filling.{rows-put}
 use Rattle.work_words.proofs.put_rows.Statement.{statement}

@@ -36,8 +36,14 @@ strike-near-requires c κs =
     let s = c .before .before .before .before .before .before .before in
     let f = s .pre .1 in
     let g = s .pre .0 in
-    let b = c .before .before .before .row-at .ensures in
-    (omega arith, g .order, omega arith, omega (arith, g .freqs, g .other))
+    let b = c .before .before .before .row-at .ensures in (
+      omega arith,
+      g .order,
+      omega arith,
+      omega (arith, g .freqs, g .other),
+      g .plain (c .before .before .if1 .left),
+      c .freq .ensures .1,
+    )
 
 returns-2 : tie.Need-returns-2
 returns-2 c =

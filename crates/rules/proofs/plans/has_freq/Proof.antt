@@ -2,7 +2,8 @@
 use borrow.Author.Needs.{needs}
 use denote.Ref.{now}
 use Rattle.sheet.specs.Sheet.{freqPart}
-use Rattle.rules.proofs.Laws.{freqs-there, has-freq-is, link-there}
+use Rattle.pair_test.proofs.Laws.{freqs-there, link-there}
+use Rattle.rules.proofs.Laws.{has-freq-is}
 use Rattle.rules.proofs.plans.has_freq.Statement.{statement}
 use Rattle.rules.proofs.plans.has_freq.Tie as tie
 

@@ -12,8 +12,9 @@ use Rattle.sets.specs.Below.{all}
 use Rattle.sets.proofs.Below.{loop-ends, loop-goes-on, loop-stops}
 use Rattle.sheet.specs.Sheet.{kOf, qOf, rulePart}
 use Rattle.rules.specs.Plans.{linkKept}
-use Rattle.rules.specs.Asked.{ComeBefore, cellsKeep}
-use Rattle.rules.proofs.Pairing.{before-next, none-higher, higher-is}
+use Rattle.pair_test.specs.Asked.{ComeBefore}
+use Rattle.rules.specs.Asked.{cellsKeep}
+use Rattle.pair_test.proofs.Pairing.{before-next, none-higher, higher-is}
 use Rattle.rules.proofs.plans.link_kept.Statement.{statement}
 use Rattle.rules.proofs.plans.link_kept.Tie as tie
 

@@ -9,8 +9,9 @@ use native.Mathlib.Omega.{arith}
 use Rattle.sets.specs.Below.{all}
 use Rattle.sets.proofs.Below.{all-none, loop-ends, loop-goes-on, loop-stops}
 use Rattle.sheet.specs.Sheet.{kOf, qOf, rulePart}
-use Rattle.rules.specs.Asked.{ComeBefore, cellKeeps}
-use Rattle.rules.proofs.Pairing.{none-before, before-link}
+use Rattle.pair_test.specs.Asked.{ComeBefore}
+use Rattle.rules.specs.Asked.{cellKeeps}
+use Rattle.pair_test.proofs.Pairing.{none-before, before-link}
 use Rattle.rules.proofs.plans.links_kept.Statement.{statement}
 use Rattle.rules.proofs.plans.links_kept.Tie as tie
 

@@ -6,7 +6,8 @@ use native.Mathlib.Omega.{arith}
 use Rattle.sheet_rows.specs.Rows.{linkCount, linkFirst}
 use Rattle.sheet.specs.Sheet.{freqPart}
 use Rattle.rules.specs.Plans.{placeOf, vertexOf}
-use Rattle.rules.proofs.Laws.{freqs-there, has-freq-lt, link-there}
+use Rattle.pair_test.proofs.Laws.{freqs-there, link-there}
+use Rattle.rules.proofs.Laws.{has-freq-lt}
 use Rattle.rules.proofs.plans.vertex.Statement.{statement}
 use Rattle.rules.proofs.plans.vertex.Tie as tie
 

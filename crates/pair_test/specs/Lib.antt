@@ -1,0 +1,5 @@
+pub mod Layers
+pub mod Parts
+pub mod Pairs
+pub mod Asked
+pub mod Forms
