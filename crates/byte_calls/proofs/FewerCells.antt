@@ -44,7 +44,7 @@ zeros-alike : (m r i : ℕ) → getD (zeros r) i 0 ≡ getD (zeros m) i 0
 zeros-alike m r i = getD-zeros r i ∙ sym (getD-zeros m i)
 
 -- a tabled function that is 0 from k on, read anywhere
-getD-tabled : (m k : ℕ) (f : ℕ → ℕ) → k ≤ m → ((i : ℕ) → k ≤ i → f i ≡ 0) → (i : ℕ) → getD (tabulate m f) i 0 ≡ f i
+pub getD-tabled : (m k : ℕ) (f : ℕ → ℕ) → k ≤ m → ((i : ℕ) → k ≤ i → f i ≡ 0) → (i : ℕ) → getD (tabulate m f) i 0 ≡ f i
 getD-tabled m k f h z i = go (ltb i m) refl
   where
     go : (b : Bool) → ltb i m ≡ b → getD (tabulate m f) i 0 ≡ f i

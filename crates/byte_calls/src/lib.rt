@@ -12,8 +12,8 @@ ghost use Rattle.setting.specs.Setting.{settingOf};
 ghost use Rattle.planner.specs.Outcome.{outcome};
 ghost use Rattle.planner.specs.Planned.{verdictNumber};
 ghost use Rattle.byte_calls.specs.ByteCalls.{outcomeIn, checkedIn, Handed, cellIn};
-use cell_bytes::get_cells;
-use cell_bytes::put_cells;
+pub use cell_bytes::get_cells;
+pub use cell_bytes::put_cells;
 use planner::Planned;
 use planner::check;
 use planner::plan;
@@ -30,8 +30,8 @@ fn number(p: Planned) -> u64
     nodes + 4294967296 * (verdict_number(verdict) as u64)
 }
 
-// The cells that the planner is lent: no sheet has more than 64 links.
-fn lent(bytes: usize) -> usize
+// The cells that the library is lent: no sheet has more than 64 links.
+pub fn lent(bytes: usize) -> usize
     ensures { λ r. ⌜ (r ≡ min (bytes / 4) 64) × (r ≤ 64) ⌝ }
 {
     let m = bytes / 4;

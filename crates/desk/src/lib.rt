@@ -1,5 +1,6 @@
 // The desk's calls, with numbers and byte slices, for a C program: what a planner's desk asks beside the console's two
-// calls. Their contracts cite specs/Desk.antt and specs/ByteCalls.antt of the crate byte_calls, for every input.
+// calls. Their contracts cite specs/Desk.antt and the definitions of the crates byte_calls and spares_bytes, for every
+// input.
 ghost use mathlib.Core.Path.{_≡_};
 ghost use Prim.Native.Nat.{_+_, _*_, _^_, _≤_};
 ghost use lib.ListN.{length};
@@ -8,7 +9,8 @@ ghost use Rattle.dimacs.specs.Import.{imported};
 ghost use Rattle.graph_export.specs.Gives.{exportNumber, mostGraph, mostCounts};
 ghost use Rattle.graph_import.specs.Gives.{importNumber, mostSheet};
 ghost use Rattle.rules.specs.Job.{jobWith};
-ghost use Rattle.byte_calls.specs.ByteCalls.{outcomeIn, checkedIn, Handed};
+ghost use Rattle.byte_calls.specs.ByteCalls.{outcomeIn, cellsIn, checkedIn, Handed};
+ghost use Rattle.spares_bytes.specs.SparesBytes.{SparesHanded};
 ghost use Rattle.desk.specs.Desk.{ExportHanded, ImportHanded};
 use byte_calls::check_bytes;
 use byte_calls::plan_bytes;
@@ -19,6 +21,7 @@ use graph_import::Imported;
 use graph_import::import;
 use graph_import::import_number;
 use setting::Options;
+use spares_bytes::spares_bytes;
 
 // The number of an export: both lengths and the cause.
 fn exported_number(e: Exported) -> u64
@@ -88,4 +91,18 @@ pub extern "C" fn guvtemi_check_job(sheet: &[u8], channels: &[u8], cells: &[u8])
     ensures { λ r. ⌜ r ≡ checkedIn (jobWith (now (sheet .entry)) (now (channels .entry))) (now (cells .entry)) ⌝ }
 {
     check_bytes(sheet, channels, cells)
+}
+
+// Writes what each pair of cells has to spare, and answers as the check does.
+#[no_mangle]
+pub extern "C" fn guvtemi_spares(
+    sheet: &[u8],
+    channels: &[u8],
+    cells: &[u8],
+    table: &mut [u8],
+) -> u64
+    ensures { λ r. ⌜ SparesHanded (jobWith (now (sheet .entry)) (now (channels .entry))) (cellsIn (now (cells .entry)))
+        (length (now (table .entry))) r (now (table .exit)) ⌝ }
+{
+    spares_bytes(sheet, channels, cells, table)
 }

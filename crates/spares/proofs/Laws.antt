@@ -4,27 +4,28 @@ use mathlib.Core.Path.{_≡_, refl, sym, ap, _∙_}
 use mathlib.Core.Bool.{Bool, true, false, _&&_}
 use mathlib.Core.List.{List}
 use native.Mathlib.Omega.{arith}
-use native.Mathlib.Nat.{mul-le-mul, div-lt-iff-lt-mul}
+use native.Mathlib.Nat.{mul-le-mul, mod-lt, div-lt-iff-lt-mul}
 use lib.Dec.{eqb, ltb, leb}
 use lib.IntN.{ℤ, pos}
 use lib.ListN.{length, getD, set, length-set}
 use lib.Seq.{getD-set-same, getD-set-other}
 use mir.Syntax.{w32}
 use mir.Val.{SFits}
-use borrow.Author.Tests.{eqb-true, eqb-false, leb-true, eq-eqb, ne-eqb, le-leb, lt-leb, le-ltb, lt-ltb}
+use borrow.Author.Tests.{eqb-true, eqb-false, ltb-true, leb-true, eq-eqb, ne-eqb, le-leb, lt-leb, le-ltb, lt-ltb}
 use Rattle.sets.specs.Below.{all}
-use Rattle.sets.proofs.Tests.{bool, clash, below}
-use Rattle.sheet.specs.Sheet.{kOf}
+use Rattle.sets.proofs.Tests.{bool, clash, below, and-l}
+use Rattle.sets.proofs.Below.{all-same}
+use Rattle.sheet.specs.Sheet.{kOf, freqPart}
 use Rattle.sheet.specs.Refusal.{causeNumber, numberOf, passing, refusal}
 use Rattle.sheet.specs.declared.Cause.{Cause}
 use Rattle.sheet.specs.declared.Reading.{Reading}
 use Rattle.sheet.specs.declared.Reading.the-variants.{Refused}
 use Rattle.sheet.proofs.Causes.{cause-some}
-use Rattle.sheet.proofs.Accepted.{refusal-most}
+use Rattle.sheet.proofs.Accepted.{accepted, refusal-most}
 use Rattle.pair_test.proofs.Laws.{parts-of}
 use Rattle.pair_test.proofs.Pairing.{spare-fits}
 use Rattle.rules.specs.Job.{Job}
-use Rattle.rules.specs.Plans.{spareTaken, checked}
+use Rattle.rules.specs.Plans.{hasFreq, inLists, spareTaken, cellsOf, checked}
 use Rattle.rules.specs.Asked.{Taken, cellListed, cellsSpare}
 use Rattle.rules.proofs.Laws.{cell-taken, vertex-in}
 use Rattle.spares.specs.Table.{spareOf, spareAt, Tabled}
@@ -128,6 +129,11 @@ pub tabled-as : {f g : ℕ → ℤ} {room : ℕ} {p : List ℤ} → ((i : ℕ) �
 tabled-as e T = record { size = T .size; each = λ i h. T .each i h ∙ e i h }
 
 -- the table that is left: it is shown where the answer and the lists say so
+pub shown-judged : (job : Job) (cells : List ℕ) (room : ℕ) → shown job cells room ≡ true
+    → judged (answerFor job cells room) ≡ true
+unfolding shown
+shown-judged job cells room e = and-l (judged (answerFor job cells room)) _ e
+
 pub shown-is : (job : Job) (cells : List ℕ) (room number : ℕ) → number ≡ answerFor job cells room
     → judged number && all (kOf (job .sheet)) (cellListed (job .sheet) cells) ≡ shown job cells room
 unfolding shown
@@ -142,3 +148,27 @@ pub left-hidden : (job : Job) (cells : List ℕ) (room i : ℕ) → shown job ce
     → pos 0 ≡ placeLeft job cells room i
 unfolding placeLeft
 left-hidden job cells room i e = rw e refl
+
+-- only the first k cells are read
+
+pub at-first-k : (s : List ℕ) (c d : List ℕ) → 0 < kOf s → ((l : ℕ) → l < kOf s → cellsOf c l ≡ cellsOf d l) → (i : ℕ)
+    → spareAt s c i ≡ spareAt s d i
+unfolding spareAt spareOf spareTaken
+at-first-k s c d o h i = bool (ltb i (kOf s * kOf s))
+    (λ e. let l = ltb-true i (kOf s * kOf s) e in
+    rw (e, h (i / kOf s) (row-lt (kOf s) i o l), h (i % kOf s) (mod-lt i o)))
+    (λ e. rw e)
+
+pub listed-first-k : (s : List ℕ) (c d : List ℕ) → ((l : ℕ) → l < kOf s → cellsOf c l ≡ cellsOf d l)
+    → all (kOf s) (cellListed s c) ≡ all (kOf s) (cellListed s d)
+unfolding inLists
+listed-first-k s c d h = all-same (kOf s) _ _ (λ l i. ap (hasFreq s (freqPart s) l) (h l i))
+
+-- no place past the 4,096th is anything but zero
+pub left-past : (job : Job) (cells : List ℕ) (room i : ℕ) → 4096 ≤ i → placeLeft job cells room i ≡ pos 0
+left-past job cells room i h = bool (shown job cells room)
+    (λ e.
+    let o = judged-checked job cells room (shown-judged job cells room e) in
+    let k = few-places (kOf (job .sheet)) (accepted (job .sheet) (o .0) .head .k-small) in
+    sym (left-shown job cells room i e) ∙ sym (at-past (job .sheet) cells i (omega arith)))
+    (λ e. sym (left-hidden job cells room i e))
