@@ -1,7 +1,8 @@
-/* Guvtemi's calls for a planner's desk: a job planned and checked with the television channels on air, a sheet's graph
-   as DIMACS text, and a sheet from such a text. Link with target/staticlib/libdesk.a (written by `rt staticlib desk`;
-   x86-64). The numbers of an answer and guvtemi_number, guvtemi_nodes and guvtemi_khz are those of guvtemi.h, which this
-   header includes; the two functions declared there are in libconsole.a.
+/* Guvtemi's calls for a planner's desk: a job planned and checked with the television channels on air, the spare spacing
+   of every two links of a plan, a sheet's graph as DIMACS text, and a sheet from such a text. Link with
+   target/staticlib/libdesk.a (written by `rt staticlib desk`; x86-64). The numbers of an answer and guvtemi_number,
+   guvtemi_nodes and guvtemi_khz are those of guvtemi.h, which this header includes; the two functions declared there are
+   in libconsole.a.
 
    A sheet is bytes as in docs/FORMAT.md, of form 1 or 2. A channel list is bytes too, a channel on air each, 21 to 48,
    strictly rising; channel c covers 470,000 + 8,000(c - 21) kHz up to, but without, 8,000 more. No bytes are no list. The
@@ -28,13 +29,14 @@
 extern "C" {
 #endif
 
-/* Causes of these calls. 1 to 8 and 16 are the sheet's refusals, 9, 10 and 12 those of planning: README.md lists them. */
+/* Causes of these calls. 1 to 8 and 16 are the sheet's refusals, 9, 10 and 12 those of planning, 10 also of check and
+   spares: README.md lists them. */
 enum {
-    GUVTEMI_WRITTEN = 0,       /* no refusal: the outputs hold the result */
+    GUVTEMI_WRITTEN = 0,       /* export and import: no refusal, the outputs hold the result */
     GUVTEMI_MALFORMED = 13,    /* import: a text is malformed, or beyond 64 links or 512 frequencies */
     GUVTEMI_BAD_EDGE = 14,     /* import: an edge inside a link, or repeated either way round */
     GUVTEMI_NO_ROOM = 15,      /* more than 8,192 pairs of kind 3, or an output shorter than what this call writes */
-    GUVTEMI_BAD_CHANNELS = 17  /* plan and check: a channel out of 21 to 48, or not above the one before it */
+    GUVTEMI_BAD_CHANNELS = 17  /* plan, check and spares: a channel out of 21 to 48, or not above the one before it */
 };
 
 /* Channels of a list. */
@@ -48,7 +50,8 @@ enum {
 enum {
     GUVTEMI_MOST_GRAPH_BYTES = 1235834,
     GUVTEMI_MOST_COUNT_BYTES = 177,
-    GUVTEMI_ENOUGH_SHEET_BYTES = 65536
+    GUVTEMI_ENOUGH_SHEET_BYTES = 65536,
+    GUVTEMI_MOST_TABLE_BYTES = 16384  /* of guvtemi_spares: 64 x 64 places of four bytes */
 };
 
 /* Plans a sheet with channels on air: guvtemi_plan of guvtemi.h with a list beside the sheet. A frequency that a channel
@@ -69,6 +72,17 @@ uint64_t guvtemi_plan_job(const uint8_t *sheet, size_t sheet_len, const uint8_t 
 uint64_t guvtemi_check_job(const uint8_t *sheet, size_t sheet_len, const uint8_t *channels, size_t channels_len,
                            const uint8_t *cells, size_t cells_len);
 
+/* Checks cells as guvtemi_check_job does, and writes the spare spacing of every two links in half kHz: zero or more where
+   the two links allow their two frequencies, below zero where they do not (docs/FORMAT.md).
+   table    at least four bytes for each of the k x k places, k being the links of the sheet; place (a, b), row by row, is
+            the spare spacing of links a and b, signed and little-endian; guvtemi_spare reads it
+   The table is filled where the call is not refused and each of the first k cells is in its link's list: also where two
+   links clash, or a channel strikes a frequency, and the answer is GUVTEMI_NO. It is zero in the places (a, a) and past
+   the k x k places, and wholly zero where it is not filled.
+   Returns what guvtemi_check_job returns, but 10 also where the table is too short. */
+uint64_t guvtemi_spares(const uint8_t *sheet, size_t sheet_len, const uint8_t *channels, size_t channels_len,
+                        const uint8_t *cells, size_t cells_len, uint8_t *table, size_t table_len);
+
 /* Writes the graph of a sheet as text, without any channel list.
    graph    `p edge n m`, then a line `e u v` for each edge, u < v, rising
    counts   the number of frequencies of each link, one a line
@@ -87,6 +101,13 @@ uint64_t guvtemi_export(const uint8_t *sheet, size_t sheet_len, uint8_t *graph, 
    Returns the sheet's length plus 2^32 times the cause: 0, 13, 14 or 15. */
 uint64_t guvtemi_import(const uint8_t *graph, size_t graph_len, const uint8_t *counts, size_t counts_len,
                         uint8_t *sheet, size_t sheet_len);
+
+/* The half kHz in place (a, b) of a table of k links. */
+static inline int32_t guvtemi_spare(const uint8_t *table, size_t k, size_t a, size_t b)
+{
+    uint32_t bits = guvtemi_khz(table, k * a + b);
+    return bits < 0x80000000u ? (int32_t)bits : -(int32_t)(0xffffffffu - bits) - 1;
+}
 
 /* The cause and the two lengths in what guvtemi_export returned. */
 static inline uint32_t guvtemi_export_cause(uint64_t returned) { return (uint32_t)(returned >> 48); }

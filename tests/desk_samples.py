@@ -1,5 +1,5 @@
 """Inputs for the desk library: calls of export and import on random, damaged and extreme sheets and texts; calls of planning
-and checking with channels on air are in air_samples.py."""
+and checking with channels on air are in air_samples.py, those of the spare spacing in spare_samples.py."""
 
 import re
 from dataclasses import dataclass
@@ -8,7 +8,7 @@ import reading
 import samples
 from jobsheet.binary import LISTED, Rule, Sheet, encode
 
-EXPORT, IMPORT, PLAN, CHECK = range(4)
+EXPORT, IMPORT, PLAN, CHECK, SPARES = range(5)
 MOST_GRAPH_BYTES, MOST_COUNT_BYTES, ENOUGH_SHEET_BYTES = 1_235_834, 177, 65_536
 EIGHTS = [8] * 64
 LONGEST_GRAPH, LONGEST_COUNTS = [9] + [8] * 12 + [7] + [8] * 50, [10] * 49 + [1] * 14 + [8]  # counts of the longest texts

@@ -1,4 +1,5 @@
-"""Tests of the desk library: every call against the reading, what a round trip keeps, channels on air."""
+"""Tests of the desk library: every call against the reading, what a round trip keeps, channels on air; those of the spare spacing
+alone are in spare_tests.py."""
 
 import random
 from collections import Counter
@@ -8,13 +9,15 @@ import desk_samples
 import native
 import reading
 import samples
-from desk_samples import CHECK, EXPORT, IMPORT, MOST_COUNT_BYTES, MOST_GRAPH_BYTES, PLAN, DeskCall
+import spare_samples
+from desk_samples import CHECK, EXPORT, IMPORT, MOST_COUNT_BYTES, MOST_GRAPH_BYTES, PLAN, SPARES, DeskCall
 from harness import EXAMPLES, need, test
 from jobsheet.binary import LISTED, SPACING, Rule, Sheet, encode
 from native import DESK_ARCHIVE, SANITIZE
 
 GUARDED = ["-O2", "-DGUARD=64"]
-NAMES = {EXPORT: "export", IMPORT: "import", PLAN: "plan", CHECK: "check"}
+NAMES = {EXPORT: "export", IMPORT: "import", PLAN: "plan", CHECK: "check", SPARES: "spares"}
+READINGS = {EXPORT: reading.desk_export, IMPORT: reading.desk_import, SPARES: reading.spares}  # of the slices read, and the lengths of those written
 
 
 def driver(name="desk-driver", flags=GUARDED):
@@ -30,13 +33,13 @@ def wanted(call):
         data, channels, classes = call.read
         returned, *after = reading.plan_job(data, channels, *call.setting, classes, *room)
     else:
-        returned, *after = (reading.desk_export if call.function == EXPORT else reading.desk_import)(*call.read, *room)
+        returned, *after = READINGS[call.function](*call.read, *room)
     return returned, after
 
 
 def cause_of(call, returned):
     """The cause, or the number of an answer."""
-    return returned >> {EXPORT: 48, IMPORT: 32, PLAN: 32, CHECK: 0}[call.function]
+    return returned >> {EXPORT: 48, IMPORT: 32, PLAN: 32, CHECK: 0, SPARES: 0}[call.function]
 
 
 def compare(calls, found):
@@ -247,6 +250,8 @@ def checked_calls(args):
     calls += [call for _, _, call in desk_samples.graph_calls(rng, list(desk_samples.bench_graphs(rng))[2:3])]
     calls += [air_samples.random_job_call(rng) for _ in range(150)] + list(air_samples.limit_job_calls(rng))[::9]
     calls += [call for _, _, call in [*air_samples.edge_calls(rng), *air_samples.order_calls(rng), *air_samples.empty_calls(rng)]][::5]
+    calls += [spare_samples.random_spares_call(rng) for _ in range(150)] + list(spare_samples.limit_spares_calls(rng))[::5]
+    calls += [call for *_, call in [*spare_samples.length_calls(rng), *spare_samples.order_calls(rng), *spare_samples.known_calls(rng)]][::9]
     return calls + list(desk_samples.limit_exports(rng))[::4]
 
 

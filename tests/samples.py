@@ -285,7 +285,7 @@ def check_cells(rng, sheet):
     """A frequency of each list, mostly one that goes with those before it, now and then one of another link or a wrong number."""
     chosen, rules = [], {(rule.a, rule.b): rule for rule in sheet.rules}
     for link, listed in enumerate(sheet.links):
-        fitting = [khz for khz in listed if all(_allows(sheet, rules.get((a, link)), chosen[a], khz) for a in range(link))]
+        fitting = [khz for khz in listed if all(allows(sheet, rules.get((a, link)), chosen[a], khz) for a in range(link))]
         chosen.append(rng.choice(fitting if fitting and rng.random() < 0.95 else listed))
     if rng.random() < 0.15:
         chosen[rng.randrange(len(chosen))] = rng.choice(chosen)
@@ -300,7 +300,7 @@ def _check_call(rng, sheet, data, cells_len):
     return Call(data, cells=cells[:cells_len])
 
 
-def _allows(sheet, rule, other, khz):
+def allows(sheet, rule, other, khz):
     """Whether two links allow the first one's frequency `other` with the second one's `khz`; the rule is None where they have none."""
     if rule is None:
         return other != khz

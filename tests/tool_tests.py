@@ -18,9 +18,11 @@ import reading
 import samples
 from harness import EXAMPLES, SHEET, example_answers, example_sheets, need, printed_by_program, test
 from jobsheet import answer as planner
-from jobsheet import binary, channels, desk, picture, show, text
-from jobsheet.answer import Answer, width
+from jobsheet import binary, channels, desk, picture, show, spacing, text
+from jobsheet.answer import Answer
+from jobsheet.columns import width
 from native import DESK_ARCHIVE, ROOT, run
+from spare_samples import answered
 
 COMMANDS = ("make", "show", "why", "plan", "picture", "dimacs", "from-dimacs")
 
@@ -74,7 +76,7 @@ def _(_):
         for link, line in enumerate(plan):
             khz = int(line.split()[1])
             wide = rf" +{job.sheet.widths[link]}" if job.sheet.widths else ""
-            row = rf"^ *{link}  {re.escape(job.names[link])} +{khz // 1000}\.{khz % 1000:03}{wide}  \d+(\.5)? kHz to "
+            row = rf"^ *{link}  {re.escape(job.names[link])} +{khz // 1000}\.{khz % 1000:03}{wide} +\d+(\.5)? +[A-Z].*, \d+(\.5)? kHz "
             need(re.search(row, table, re.MULTILINE), f"{name}: no row for link {link} in the table")
 
 
@@ -84,7 +86,9 @@ def _(_):
     for name in ("theatre", "edges", "on-air"):
         job = EXAMPLES / f"{name}.txt"
         need(job.read_text(encoding="utf-8") in page, f"docs/TEXT.md does not hold examples/{name}.txt")
-        need(run([SHEET, "plan", job]).stdout.decode() in page, f"docs/TEXT.md does not hold the plan of {name}")
+        plan, every = (run(["env", "COLUMNS=120", SHEET, "plan", job, *more]).stdout.decode() for more in ([], ["--spare"]))
+        need(plan in page, f"docs/TEXT.md does not hold the plan of {name}")
+        need(name != "edges" or every[len(plan):].strip() in page, f"docs/TEXT.md does not hold the spare spacing of {name}")
         drawn = run([SHEET, "picture", job, "-o", "-"]).stdout
         need(drawn == (EXAMPLES / f"{name}.svg").read_bytes(), f"tools/sheet picture draws another examples/{name}.svg")
 
@@ -98,7 +102,7 @@ def _(_):
     need(len(shown) == len(wanted), f"{len(shown)} tables of bytes")
     for table, sheet in zip(shown, wanted):
         data = b""
-        for offset, digits in re.findall(r"^\| (\d+) \| ([0-9a-f ]+) \|", table, re.MULTILINE):
+        for offset, digits in re.findall(r"^\| (\d+) \| ([0-9a-f ]+) \|", table.split("\n## ")[0], re.MULTILINE):
             need(int(offset) == len(data), f"offset {offset} after {len(data)} bytes")
             data += bytes.fromhex(digits)
         need(data == binary.encode(sheet), f"form {sheet.form()}: other bytes")
@@ -116,8 +120,8 @@ def _(_):
     job, centres = text.parse(whole), text.parse(re.sub(r"(?m)^width .*\n", "", whole))
     need(binary.encode(centres.sheet)[:4] == b"\x01\0\0\0", "without width lines the form is not 1")
     plans = [[int(line.split()[1]) for line in printed_by_program(binary.encode(sheet)).splitlines()[1:]] for sheet in (job.sheet, centres.sheet)]
-    need([planner.keeps_rules(job.sheet, plan) for plan in plans] == [True, False], f"{plans}")
-    need(planner.keeps_rules(centres.sheet, plans[1]), f"{plans[1]}")
+    need([spacing.keeps_rules(job.sheet, plan) for plan in plans] == [True, False], f"{plans}")
+    need(spacing.keeps_rules(centres.sheet, plans[1]), f"{plans[1]}")
 
 
 @test("every command has --help")
@@ -414,16 +418,16 @@ def _(args):
         sheet = samples.random_sheet(rng)
         cells = samples.check_cells(rng, sheet)
         wanted = reading.console_check(binary.encode(sheet), struct.pack(f"<{len(cells)}I", *cells)) == reading.YES
-        need(planner.keeps_rules(sheet, cells) == wanted, f"{sheet}, {cells}: wanted {wanted}")
+        need(spacing.keeps_rules(sheet, cells) == wanted, f"{sheet}, {cells}: wanted {wanted}")
         seen[sheet.form(), wanted] += 1
     need(len(seen) == 4, f"{seen}")  # both forms, both answers
     for allowed, sheet in samples.edge_sheets():
-        need(planner.keeps_rules(sheet, [listed[0] for listed in sheet.links]) == allowed, f"{sheet}: wanted {allowed}")
+        need(spacing.keeps_rules(sheet, [listed[0] for listed in sheet.links]) == allowed, f"{sheet}: wanted {allowed}")
     for _ in range(args.cases // 2):
         sheet = air_samples.air_sheet(rng)
         cells, listed = samples.check_cells(rng, sheet), air_samples.good_channels(rng, sheet)
         said = [reading.check_job(binary.encode(sheet), on_air, struct.pack(f"<{len(cells)}I", *cells)) == reading.YES for on_air in (listed, b"")]
-        need(planner.keeps_rules(sheet, cells, listed) == said[0], f"{sheet}, {cells}, channels {list(listed)}: wanted {said[0]}")
+        need(spacing.keeps_rules(sheet, cells, listed) == said[0], f"{sheet}, {cells}, channels {list(listed)}: wanted {said[0]}")
         seen["struck"] += said == [False, True]
     need(seen["struck"], "no plan failed for its struck frequencies alone")
     return f"{seen[1, True] + seen[2, True]:,} of {args.cases:,} plans keep the rules"
@@ -431,48 +435,48 @@ def _(args):
 
 @test("tables and pictures: links without a rule count, free links do not")
 def _(_):
-    for lines, told in (("", "25 kHz to B (no rule: another frequency)"), ("free A B", "400 kHz to C (no rule: another frequency)"),
-                        ("free A B C", "no link to keep apart from"), ("apart 25 A B", "25 kHz to B (at least 25 kHz)")):
+    for lines, told in (("", "24.5  B, 25 kHz apart (no rule: another frequency)"), ("free A B", "399.5  C, 400 kHz apart (no rule: another frequency)"),
+                        ("free A B C", "-  no link to keep apart from"), ("apart 25 A B", "0    B, 25 kHz apart (at least 25 kHz)")):
         job = text.parse("job x\nlink A 500.0\nlink B 500.025\nlink C 500.4\n" + lines)
-        answer = Answer("found", 4, [500_000, 500_025, 500_400])
-        row = planner.table(job.sheet, job.names, answer).splitlines()[1]
-        need(row == f"   0  A       500.000  {told}", f"{lines}: {row}")
+        answer = answered(job.sheet, [500_000, 500_025, 500_400], 4)
+        head, row = spacing.table(job.sheet, job.names, answer).splitlines()[:2]
+        need(head == "link  name        MHz  kHz spare  tightest pair", head)
+        need(row.split() == f"0 A 500.000 {told}".split() and row.endswith(told), f"{lines}: {row}")
         labels_apart(picture.svg(job, answer))
         need(("tightest pair" in picture.svg(job, answer)) == (lines != "free A B C"), f"{lines}: the tightest pair")
     job = text.parse("job x\nlink A 500.0\nlink B 500.0\nlink C 500.4\nfree A B")
-    row = planner.table(job.sheet, job.names, Answer("found", 4, [500_000, 500_000, 500_400])).splitlines()[2]
-    need(row == "   1  B       500.000  400 kHz to C (no rule: another frequency); shares its carrier with A", row)
+    row = spacing.table(job.sheet, job.names, answered(job.sheet, [500_000, 500_000, 500_400], 4)).splitlines()[2]
+    need(row == "   1  B       500.000      399.5  C, 400 kHz apart (no rule: another frequency); shares its carrier with A", row)
 
 
-@test("tables of form 2: from edge to edge, in half kHz, with overlaps; an exact distance is between centres")
+@test("tables of form 2: distances from edge to edge, in half kHz, with overlaps; an exact distance is between centres")
 def _(_):
-    for lines, rows, pair in (
-            ("width 200 all\napart 200 all", ["200  200 kHz to B (at least 200 kHz)", "200  200 kHz to A (at least 200 kHz)"],
-             "A and B, 200 kHz from edge to edge (at least 200 kHz)"),
-            ("width 200 B\nwidth 25 A\napart 200 all", [" 25  287.5 kHz to B (at least 200 kHz)", "200  287.5 kHz to A (at least 200 kHz)"],
-             "A and B, 287.5 kHz from edge to edge (at least 200 kHz)"),
-            ("width 200 all\nexactly 400 A B", ["200  200 kHz to B (just 400 kHz between centres)", "200  200 kHz to A (just 400 kHz between centres)"],
-             "A and B, 200 kHz from edge to edge (just 400 kHz between centres)"),
-            ("width 401 A\nwidth 400 B", ["401  overlaps B, 400 kHz between centres (no rule: another frequency)",
-                                          "400  overlaps A, 400 kHz between centres (no rule: another frequency)"],
-             "A and B overlap, 400 kHz between centres (no rule: another frequency)"),
-            ("width 400 A B", ["400  0 kHz to B (no rule: another frequency)", "400  0 kHz to A (no rule: another frequency)"],
-             "A and B, 0 kHz from edge to edge (no rule: another frequency)"),
-            ("width 800 A B\nexactly 400 A B", ["800  overlaps B, 400 kHz between centres (just 400 kHz between centres)",
-                                                "800  overlaps A, 400 kHz between centres (just 400 kHz between centres)"],
-             "A and B overlap, 400 kHz between centres (just 400 kHz between centres)"),
-            ("width 800 A B\nfree A B", ["800  no link to keep apart from; overlaps B", "800  no link to keep apart from; overlaps A"], None)):
+    edge, no_rule = "from edge to edge", "no rule: another frequency"
+    for lines, wide, spare, told, pair in (
+            ("width 200 all\napart 200 all", (200, 200), "0", f"200 kHz {edge} (at least 200 kHz)", f"0 kHz to spare (200 kHz {edge}, at least 200 kHz)"),
+            ("width 200 B\nwidth 25 A\napart 200 all", (25, 200), "87.5", f"287.5 kHz {edge} (at least 200 kHz)",
+             f"87.5 kHz to spare (287.5 kHz {edge}, at least 200 kHz)"),
+            ("width 200 all\nexactly 400 A B", (200, 200), "0", f"200 kHz {edge} (just 400 kHz between centres)",
+             f"0 kHz to spare (200 kHz {edge}, just 400 kHz between centres)"),
+            ("width 401 A\nwidth 400 B", (401, 400), "399.5", f"overlapping, 400 kHz between centres ({no_rule})",
+             f"399.5 kHz to spare (overlapping, 400 kHz between centres, {no_rule})"),
+            ("width 400 A B", (400, 400), "399.5", f"0 kHz {edge} ({no_rule})", f"399.5 kHz to spare (0 kHz {edge}, {no_rule})"),
+            ("width 800 A B\nexactly 400 A B", (800, 800), "0", "overlapping, 400 kHz between centres (just 400 kHz between centres)",
+             "0 kHz to spare (overlapping, 400 kHz between centres, just 400 kHz between centres)"),
+            ("width 800 A B\nfree A B", (800, 800), "-", None, None)):
         job = text.parse("job x\nlink A 500.0\nlink B 500.4\n" + lines)
-        answer = Answer("found", 3, [500_000, 500_400])
-        told = planner.table(job.sheet, job.names, answer).splitlines()
-        need(told[0] == "link  name        MHz  kHz wide  tightest spacing, edge to edge", told[0])
-        need(told[1:3] == [f"   0  A       500.000       {rows[0]}", f"   1  B       500.400       {rows[1]}"], f"{lines}: {told}")
-        need(told[3:] == (["", f"tightest pair: {pair}"] if pair else []), f"{lines}: {told}")
+        answer = answered(job.sheet, [500_000, 500_400], 3)
+        found = spacing.table(job.sheet, job.names, answer).splitlines()
+        need(found[0] == "link  name        MHz  kHz wide  kHz spare  tightest pair", found[0])
+        for row, number, name, other, khz in ((found[1], 0, "A", "B", "500.000"), (found[2], 1, "B", "A", "500.400")):
+            ending = f"{other}, {told}" if told else f"no link to keep apart from; overlaps {other}"
+            need(row == f"   {number}  {name}       {khz}  {wide[number]:8}  {spare:>9}  {ending}", f"{lines}: {row}")
+        need(found[3:] == (["", f"tightest pair: A and B, {pair}"] if pair else []), f"{lines}: {found}")
         labels_apart(picture.svg(job, answer))
-        need(pair is None or f"tightest pair: {pair}" in picture.svg(job, answer), f"{lines}: the tightest pair of the picture")
+        need(pair is None or f"tightest pair: A and B, {pair}" in picture.svg(job, answer), f"{lines}: the tightest pair of the picture")
     job = text.parse("job x\nlink A 500.0\nlink B 500.1\nlink C 500.3\nlink D 500.1\nwidth 500 all\nfree B D")
-    row = planner.table(job.sheet, job.names, Answer("found", 5, [500_000, 500_100, 500_300, 500_100])).splitlines()[2]
-    need(row == "   1  B       500.100       500  overlaps A, 100 kHz between centres (no rule: another frequency); "
+    row = spacing.table(job.sheet, job.names, answered(job.sheet, [500_000, 500_100, 500_300, 500_100], 5)).splitlines()[2]
+    need(row == "   1  B       500.100       500       99.5  A, overlapping, 100 kHz between centres (no rule: another frequency); "
          "shares its carrier with D; overlaps C", row)
 
 
@@ -484,7 +488,7 @@ def _(args):
         sheet.widths = [rng.choice((1, 25, 200, 6000, 20_000)) for _ in sheet.links]
         names = [f"link{link}" for link in range(len(sheet.links))]
         plan = [rng.choice(listed) for listed in sheet.links]
-        drawn = picture.svg(text.Job("job", names, sheet, []), Answer("found", 1, plan))
+        drawn = picture.svg(text.Job("job", names, sheet, []), answered(sheet, plan))
         bars = drawn_bars(drawn)
         need(sorted(bars) == sorted([f"link {link}" for link in range(len(plan))] + names), "not every carrier is drawn, above and in its lane")
         widest = sheet.widths.index(max(sheet.widths))
@@ -494,11 +498,11 @@ def _(args):
                 need(told.endswith(f" MHz, {khz:,} kHz wide"), told)
                 need(abs(wide - scale * khz) < 0.2 and x >= 0 and x + wide <= 1200, f"link {link}, {khz} kHz: {x}, {wide}")
     job = text.parse("job x\nlink A 500.0\nlink B 502.0\nwidth 1000 A\nwidth 25 B")
-    (low, wide, _), (high, narrow, _) = (drawn_bars(picture.svg(job, Answer("found", 3, [500_000, 502_000])))[name] for name in "AB")
+    (low, wide, _), (high, narrow, _) = (drawn_bars(picture.svg(job, answered(job.sheet, [500_000, 502_000])))[name] for name in "AB")
     apart = high + narrow / 2 - low - wide / 2
     need(abs(2 * wide - apart) < 0.5 and abs(80 * narrow - apart) < 5, f"{wide} and {narrow} wide, {apart} between centres")
     theatre = text.parse((EXAMPLES / "theatre.txt").read_text(encoding="utf-8"))
-    drawn = picture.svg(theatre, Answer("found", 1, [listed[0] for listed in theatre.sheet.links]))
+    drawn = picture.svg(theatre, answered(theatre.sheet, [listed[0] for listed in theatre.sheet.links]))
     need(drawn.count("<rect") == 1 and "as wide" not in drawn, "a picture of form 1 has bars")
 
 
@@ -604,7 +608,7 @@ def _(_):
 def _(_):
     job = text.parse((EXAMPLES / "on-air.txt").read_text(encoding="utf-8"))
     without = [int(line.split()[1]) for line in printed_by_program((EXAMPLES / "on-air.sheet").read_bytes()).splitlines()[1:]]
-    need(planner.keeps_rules(job.sheet, without) and not planner.keeps_rules(job.sheet, without, job.channels), f"{without}")
+    need(spacing.keeps_rules(job.sheet, without) and not spacing.keeps_rules(job.sheet, without, job.channels), f"{without}")
 
 
 @test("--air: a wrong channel gets a sentence")
@@ -679,7 +683,7 @@ def _(args):
         sheet = samples.wide_sheet(rng) if rng.random() < 0.3 else air_samples.air_sheet(rng)
         on_air = list(air_samples.good_channels(rng, sheet))
         names = [f"link{link}" for link in range(len(sheet.links))]
-        answer = Answer("found", 1, [rng.choice(listed) for listed in sheet.links]) if rng.random() < 0.7 else Answer("none", 0, [])
+        answer = answered(sheet, [rng.choice(listed) for listed in sheet.links]) if rng.random() < 0.7 else Answer("none", 0, [])
         drawn = picture.svg(text.Job("job", names, sheet, [], on_air), answer)
         labels_apart(drawn)
         taken = [khz for listed in sheet.links for khz in listed if any(reading.covers(c, khz) for c in on_air)]
@@ -757,7 +761,7 @@ def _(args):
         sheet = samples.wide_sheet(rng) if rng.random() < 0.5 else samples.random_sheet(rng, 20, 6)
         names = [f'A & <b> "{link}"' if rng.random() < 0.1 else f"link{link}" * rng.choice((1, 1, 6)) for link in range(len(sheet.links))]
         plan = [rng.choice(listed) for listed in sheet.links]
-        answer = Answer("found", 1, plan) if rng.random() < 0.8 else Answer("none", 1, [])
+        answer = answered(sheet, plan) if rng.random() < 0.8 else Answer("none", 1, [])
         on_air = air_samples.good_channels(rng, sheet) if rng.random() < 0.5 else b""
         labels_apart(picture.svg(text.Job("job & <name>", names, sheet, [], list(on_air)), answer))
 

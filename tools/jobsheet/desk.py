@@ -1,4 +1,5 @@
-"""The proved calls of include/guvtemi_desk.h: planning with channels on air, a sheet's graph as DIMACS text (docs/DIMACS.md) and back."""
+"""The proved calls of include/guvtemi_desk.h: planning with channels on air, the spare spacing of a plan, a sheet's graph as DIMACS text
+(docs/DIMACS.md) and back."""
 
 import ctypes
 import os
@@ -47,6 +48,16 @@ def plan(sheet, channels, links, setting):
     function = _function("guvtemi_plan_job", SLICE * 2 + [ctypes.c_uint32] * 3 + SLICE * 2)
     returned = function(sheet, len(sheet), channels, len(channels), *setting, None, 0, cells, len(cells))
     return returned >> 32, returned % 2**32, list(struct.unpack(f"<{links}I", cells.raw))
+
+
+def spares(sheet, channels, khz):
+    """(the check's number, the spare spacing of every two links in half kHz, a row for each link) of the bytes of a sheet and of a channel list
+    and of a frequency for each link."""
+    links = len(khz)
+    cells, table = struct.pack(f"<{links}I", *khz), ctypes.create_string_buffer(4 * links * links)
+    function = _function("guvtemi_spares", SLICE * 4)
+    number = function(sheet, len(sheet), channels, len(channels), cells, len(cells), table, len(table))
+    return number, [list(row) for row in struct.iter_unpack(f"<{links}i", table.raw)]
 
 
 def export(sheet):

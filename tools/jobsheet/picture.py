@@ -4,8 +4,10 @@ the television channels on air are shaded, and the frequencies that they take cr
 from xml.sax.saxutils import escape
 
 from . import channels as air
-from .answer import said, tightest, width
+from .answer import said
 from .axis import Axis, spread
+from .columns import cut, kilohertz, width
+from .spacing import spacings, tightest
 from .text import mhz
 
 WIDE = 1200            # of the picture, in pixels
@@ -55,10 +57,9 @@ class _Picture:
     def __init__(self, job, answer):
         self.job, self.answer, self.sheet = job, answer, job.sheet
         self.plan = answer.khz if answer.verdict == "found" else []
-        self.names = [_cut(name) for name in job.names]
-        worst = tightest(self.sheet, self.plan) if self.plan else None
-        self.worst = worst
-        self.worst_links = worst.links if worst else ()
+        self.names = [cut(name, LONGEST_NAME) for name in job.names]
+        self.worst = tightest(spacings(self.sheet, self.plan, answer.spares))
+        self.worst_links = self.worst.links if self.worst else ()
         left = 24 + CHARACTER * max(10, 4 + max(width(name) for name in self.names))
         self.edges = self.sheet.form() == 2
         self.axis = Axis([self._stretch(link, khz) for link, listed in enumerate(self.sheet.links) for khz in listed], left, WIDE - RIGHT)
@@ -104,14 +105,13 @@ class _Picture:
 
     def _heading(self, y):
         most = int((WIDE - 60) / CHARACTER)
-        self._write(24, y, _cut(self.job.name, most * 11 // 17), "title")
-        self._write(24, y + 21, _cut(f"{self.sheet.counted()}: {said(self.answer)}", most))
+        self._write(24, y, cut(self.job.name, most * 11 // 17), "title")
+        self._write(24, y + 21, cut(f"{self.sheet.counted()}: {said(self.answer)}", most))
         if self.channels:
             y += 18
-            self._write(24, y + 21, _cut(air.told(self.sheet, self.channels), most), "air-text")
+            self._write(24, y + 21, cut(air.told(self.sheet, self.channels), most), "air-text")
         if self.worst:
-            told = self.worst.told(*(self.job.names[link] for link in self.worst_links))
-            self._write(24, y + 39, _cut(f"tightest pair: {told}", most), "worst-text")
+            self._write(24, y + 39, cut(f"tightest pair: {self.worst.told(self.job.names)}", most), "worst-text")
         return y + 56
 
     def _labels(self, y):
@@ -169,10 +169,10 @@ class _Picture:
                 self.behind.append(f'<rect x="{left:.1f}" y="{self.top:.1f}" width="{right - left:.1f}" height="{bottom - self.top:.1f}" class="air"/>')
 
     def _bracket(self, y):
-        """The worst pair below the axis, with its distance: that of the edges that face each other."""
+        """The worst pair below the axis, between the edges that face each other, with its spare spacing."""
         lows, highs = zip(*(self._stretch(link, self.plan[link]) for link in self.worst_links))
         ends = sorted(map(self.axis.x, (max(lows), min(highs))))
-        words = "overlap" if self.worst.gap() < 0 else self.worst.khz()
+        words = f"{kilohertz(self.worst.spare)} kHz to spare"
         half = CHARACTER * len(words) / 2
         middle = min(max(sum(ends) / 2, self.axis.left + half), self.axis.right - half)
         self._line([(ends[0], y - 8), (ends[0], y), (ends[1], y), (ends[1], y - 8)], "worst")
@@ -210,7 +210,7 @@ class _Picture:
         told = ["grey strokes: the frequencies that a link can tune to"]
         told += ["dots: the plan"] if self.plan else []
         told += ["bars: its carriers as wide as they are"] if self.plan and self.edges else []
-        told += ["red: the tightest pair"] if self.worst else []
+        told += ["red: the least spare spacing"] if self.worst else []
         self._write(self.axis.left, end + 4, "; ".join(told), "quiet")
         if self.channels:
             end += 16
@@ -222,12 +222,3 @@ def _fits(label):
     """Whether words stand in their place along the axis."""
     words, (left, right) = label
     return CHARACTER * len(words) + 2 <= right - left
-
-
-def _cut(name, most=LONGEST_NAME):
-    """A text of at most so many columns."""
-    if width(name) <= most:
-        return name
-    while width(name) >= most:
-        name = name[:-1]
-    return name + "…"
