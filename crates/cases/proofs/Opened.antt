@@ -10,6 +10,8 @@ use Rattle.rules.specs.Job
 use Rattle.pair_test.specs.Pairs
 use Rattle.pair_test.specs.Layers
 use Rattle.rules.specs.Plans
+use Rattle.spares.specs.Table
+use Rattle.spares.specs.Spares
 use Rattle.cliques.specs.Graph
 use Rattle.cliques.specs.Listing
 use Rattle.filters.specs.Sweep
@@ -57,6 +59,10 @@ unfoldable pub openCheck : Unit {0}
 unfolding Plans.placeOf Plans.hasFreq Plans.vertexOf Plans.inLists Plans.spareTaken Plans.pairKept Plans.linkKept
     Plans.keeps Plans.keepsSheet Plans.clear Plans.keepsJob Plans.checked
 openCheck = tt
+
+unfoldable pub openSpares : Unit {0}
+unfolding Table.spareOf Table.spareAt Spares.answerFor Spares.judged Spares.shown Spares.placeLeft
+openSpares = tt
 
 unfoldable pub openGraph : Unit {0}
 unfolding Pairs.distance Pairs.samePair Pairs.listsPair Pairs.zeroOrMore Pairs.spareBy Pairs.ruleWidths

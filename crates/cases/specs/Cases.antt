@@ -1,16 +1,18 @@
--- The jobs with known results to prove: M1 to M12 as one list, and those of Asks 2, 3 and 4. A case that holds computes
--- to true.
+-- The jobs with known results to prove: M1 to M12 as one list, and those of Asks 2, 3, 4 and 5. A case that holds
+-- computes to true.
 use mathlib.Core.Bool.{Bool, true, false, _&&_}
 use mathlib.Core.List.{List, [], _∷_}
-use Prim.Native.Nat.{ℕ}
+use Prim.Native.Nat.{ℕ, _+_}
 use Prim.Native.String.{String}
 use lib.Dec.{T, eqb}
+use lib.IntN.{ℤ, pos, negsuc, negℤ}
 use lib.ListN.{length}
 use Rattle.sets.specs.Below.{all}
 use Rattle.sheet.specs.Sheet.{nOf}
 use Rattle.sheet.specs.Refusal.{refusal}
 use Rattle.rules.specs.Job.{Job, jobOf, jobWith, unstruck}
 use Rattle.rules.specs.Plans.{checked}
+use Rattle.spares.specs.Spares.{answerFor, placeLeft}
 use Rattle.filters.specs.PreFilter.{preFilter}
 use Rattle.graph.specs.Graph.{layer, graphOf}
 use Rattle.setting.specs.Setting.{Setting}
@@ -53,7 +55,8 @@ example3 =
 
 -- a planning call of a sheet, under each filter of a list and each choice of a list, with a plan cell for each cell of
 -- the outcome; the printed text; the vertices that the pre-filter leaves; the reader's number; the check's, of cells; a
--- planning call of a job, under each filter of a list, by a setting for each; the check's number
+-- planning call of a job, under each filter of a list, by a setting for each; the check's number; the answer and the
+-- table of a call for spares, which is lent the places that are named
 pub data Case : Type 0 where
   plans : List ℕ → List ℕ → List ℕ → Outcome → Case
   prints : List ℕ → String → Case
@@ -62,12 +65,24 @@ pub data Case : Type 0 where
   checks : List ℕ → List ℕ → ℕ → Case
   plansJob : Job → List ℕ → (ℕ → Setting) → Outcome → Case
   checksJob : Job → List ℕ → ℕ → Case
+  shows : Job → List ℕ → ℕ → List ℤ → Case
 
 abbrev pub sameList : List ℕ → List ℕ → Bool
 sameList [] [] = true
 sameList [] (y ∷ ys) = false
 sameList (x ∷ xs) [] = false
 sameList (x ∷ xs) (y ∷ ys) = eqb x y && sameList xs ys
+
+abbrev pub sameNumber : ℤ → ℤ → Bool
+sameNumber (pos a) (pos b) = eqb a b
+sameNumber (pos a) (negsuc b) = false
+sameNumber (negsuc a) (pos b) = false
+sameNumber (negsuc a) (negsuc b) = eqb a b
+
+-- a function has the numbers of a list from place i on
+abbrev pub samePlaces : (ℕ → ℤ) → ℕ → List ℤ → Bool
+samePlaces f i [] = true
+samePlaces f i (z ∷ zs) = sameNumber (f i) z && samePlaces f (i + 1) zs
 
 abbrev pub sameOutcome : Outcome → Outcome → Bool
 sameOutcome o p = eqb (o .answer) (p .answer) && eqb (o .nodes) (p .nodes) && sameList (o .cells) (p .cells)
@@ -114,6 +129,8 @@ holds (reads s number) = eqb (refusal s) number
 holds (checks s cells number) = eqb (checked (jobOf s) cells) number
 holds (plansJob job filters x o) = given job filters x o
 holds (checksJob job cells number) = eqb (checked job cells) number
+holds (shows job cells number table) =
+    eqb (answerFor job cells (length table)) number && samePlaces (placeLeft job cells (length table)) 0 table
 
 abbrev pub allHold : List Case → Bool
 allHold [] = true
@@ -220,5 +237,46 @@ onAir =
     checksJob (jobWith (encode ((693999 ∷ 694000 ∷ []) ∷ []) []) (48 ∷ [])) (693999 ∷ []) 0 ∷
     checksJob (jobWith (encode ((693999 ∷ 694000 ∷ []) ∷ []) []) (48 ∷ [])) (694000 ∷ []) 100 ∷ []
 
+-- Ask 5: minus a number, the table of two links, and one of zeros
+abbrev pub minus : ℕ → ℤ
+minus n = negℤ (pos n)
+
+abbrev pub between : ℤ → List ℤ
+between z = pos 0 ∷ z ∷ z ∷ pos 0 ∷ []
+
+abbrev pub blank : List ℤ
+blank = between (pos 0)
+
+-- the four pairs of M1 in form 2 with widths 30 and 50; kind 1 of form 1, kinds 2 and 3, and no rule; both ends of the
+-- range; a struck frequency is shown, one of no list is not; a table too short, and one with room; 10 before 17
+abbrev pub spare : List Case
+spare =
+    shows (jobOf (wide 30 50 1 400)) (500000 ∷ 500000 ∷ []) 0 (between (minus 880)) ∷
+    shows (jobOf (wide 30 50 1 400)) (500000 ∷ 500300 ∷ []) 0 (between (minus 280)) ∷
+    shows (jobOf (wide 30 50 1 400)) (500400 ∷ 500000 ∷ []) 0 (between (minus 80)) ∷
+    shows (jobOf (wide 30 50 1 400)) (500400 ∷ 500300 ∷ []) 0 (between (minus 680)) ∷
+    shows (jobOf (wide 30 51 1 360)) (500400 ∷ 500000 ∷ []) 0 (between (minus 1)) ∷
+    shows (jobOf twoLinks) (500400 ∷ 500000 ∷ []) 100 (between (pos 0)) ∷
+    shows (jobOf (oneEach 30)) (500000 ∷ 500100 ∷ []) 100 (between (pos 140)) ∷
+    shows (jobOf (wide 20000 20000 2 400)) (500400 ∷ 500000 ∷ []) 100 (between (pos 0)) ∷
+    shows (jobOf (wide 20000 20000 2 400)) (500000 ∷ 500300 ∷ []) 0 (between (minus 200)) ∷
+    shows (jobOf (wide 20000 20000 2 50)) (500400 ∷ 500300 ∷ []) 0 (between (minus 100)) ∷
+    shows (jobOf (oneCarrier (table 0 1 ((0, 0) ∷ []) ∷ []))) (500000 ∷ 500000 ∷ []) 100 (between (pos 0)) ∷
+    shows (jobOf (encode ((1 ∷ []) ∷ (1 ∷ 2 ∷ []) ∷ []) (table 0 1 ((0, 1) ∷ []) ∷ []))) (1 ∷ 1 ∷ []) 0
+    (between (minus 1)) ∷
+    shows (jobOf (oneCarrier [])) (500000 ∷ 500000 ∷ []) 0 (between (minus 1)) ∷
+    shows (jobOf besideAir) (501999 ∷ 493999 ∷ []) 100 (between (pos 15999)) ∷
+    shows (jobOf (encodeWide (20000 ∷ 20000 ∷ []) ((7 ∷ []) ∷ (7 ∷ []) ∷ []) (spaced 9999999))) (7 ∷ 7 ∷ []) 0
+    (between (minus 20039998)) ∷
+    shows (jobOf (encode ((1 ∷ []) ∷ (9999999 ∷ []) ∷ []) [])) (1 ∷ 9999999 ∷ []) 100 (between (pos 19999995)) ∷
+    shows (jobWith besideAir (24 ∷ [])) (501999 ∷ 493999 ∷ []) 0 (between (pos 15999)) ∷
+    shows (jobOf besideAir) (502001 ∷ 493999 ∷ []) 0 blank ∷
+    shows (jobOf besideAir) (501999 ∷ 493999 ∷ []) 10 (pos 0 ∷ pos 0 ∷ pos 0 ∷ []) ∷
+    shows (jobOf besideAir) (501999 ∷ 493999 ∷ 7 ∷ []) 100 (pos 0 ∷ pos 15999 ∷ pos 15999 ∷ pos 0 ∷ pos 0 ∷ []) ∷
+    shows (jobWith besideAir (20 ∷ [])) (501999 ∷ 493999 ∷ []) 17 blank ∷
+    shows (jobWith besideAir (20 ∷ [])) (501999 ∷ []) 10 blank ∷
+    shows (jobWith besideAir (20 ∷ [])) (501999 ∷ 493999 ∷ []) 10 [] ∷
+    shows (jobOf (wide 0 50 1 360)) (500400 ∷ 500000 ∷ []) 16 [] ∷ []
+
 abbrev pub CasesHold : Type 0
-CasesHold = T (allHold cases && (allHold shared && (allHold edges && allHold onAir)))
+CasesHold = T (allHold cases && (allHold shared && (allHold edges && (allHold onAir && allHold spare))))

@@ -22,7 +22,8 @@ minus-requires-2 : tie.Need-minus-requires-2
 unfolding distance
 minus-requires-2 c κs =
     let f = c .before .before .before .fits in
-    (omega arith, omega (arith, c .distance .ensures, f .apart .fits, f .value .fits))
+    let d = c .distance .ensures in
+    (omega (arith, d, f .apart .fits, f .value .fits), omega (arith, d, f .apart .fits, f .value .fits))
 
 returns-2 : tie.Need-returns-2
 returns-2 c = read-back (c .minus2 .ok) (c .minus2 .ensures
