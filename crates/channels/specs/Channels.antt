@@ -27,7 +27,8 @@ channelsOk cs = all (length cs) (channelOk cs)
 unfoldable pub coveredBy : List ℕ → ℕ → Bool
 coveredBy cs x = any (length cs) (λ i. covers (getD cs i 0) x)
 
--- x is on a channel on air; an empty list is no list
+-- x is on a channel on air; an empty list is no list, told first so that what is said of a job without one computes to
+-- what is said of its sheet
 abbrev pub onAir : List ℕ → ℕ → Bool
 onAir [] x = false
 onAir (c ∷ cs) x = coveredBy (c ∷ cs) x

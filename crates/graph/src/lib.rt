@@ -21,6 +21,7 @@ use sheet::rules_at;
 use sheet::rules_of;
 use sheet_rows::rule_a;
 use sheet_rows::rule_b;
+pub use span::add_span;
 use start::start_rows;
 use strike::rule_side;
 use strike::side;

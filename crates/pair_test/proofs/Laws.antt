@@ -192,16 +192,18 @@ width-most s k l h b = go (or-case (ltb (linkBytes s) 8) _ (all-out k (widthOk (
     go (inr t) = leb-true (rowWidth (linkBytes s) (linkPart s) l) mostWidth
         (and-r (ltb 0 (rowWidth (linkBytes s) (linkPart s) l)) _ t)
 
-freq-most : (s fs : List ℕ) (k l v : ℕ) → freqsOk s fs k ≡ true → l < k → InLink s l v → freq fs v ≤ mostKHz
+freq-range : (s fs : List ℕ) (k l v : ℕ) → freqsOk s fs k ≡ true → l < k → InLink s l v
+    → (0 < freq fs v) × (freq fs v ≤ mostKHz)
 unfolding freqsOk linkFreqsOk freqOk
-freq-most s fs k l v h b i =
+freq-range s fs k l v h b i =
     let at = linkFirst s l in
     let e : at + (v - at) ≡ v = omega (arith, i .low) in
     let o = all-out (linkCount s l) (freqOk fs at) (all-out k (linkFreqsOk s fs) h l b) (v - at)
     (omega (arith, i .low, i .high)) in
     let x = and-l (ltb 0 (freq fs (at + (v - at))) && leb (freq fs (at + (v - at))) mostKHz) _ o in
+    let z = ltb-true 0 (freq fs (at + (v - at))) (and-l (ltb 0 (freq fs (at + (v - at)))) _ x) in
     let y = leb-true (freq fs (at + (v - at))) mostKHz (and-r (ltb 0 (freq fs (at + (v - at)))) _ x) in
-    rw e at y
+    (rw e at z, rw e at y)
 
 -- what the numbers of the pair test keep to, in an accepted sheet
 module _ {s fs rs ps : List ℕ} {k n q t : ℕ} (P : Parts s fs rs ps k n q t) where
@@ -210,5 +212,5 @@ module _ {s fs rs ps : List ℕ} {k n q t : ℕ} (P : Parts s fs rs ps k n q t) 
   widths-small j b = let o = rule-links P j b in
       omega (arith, width-most s k (ruleA rs j) (P .widths) (omega arith), width-most s k (ruleB rs j) (P .widths) (o .1))
 
-  pub freq-small : (l v : ℕ) → l < k → InLink s l v → freq fs v ≤ mostKHz
-  freq-small l v b i = freq-most s fs k l v (P .freqs) b i
+  pub freq-small : (l v : ℕ) → l < k → InLink s l v → (0 < freq fs v) × (freq fs v ≤ mostKHz)
+  freq-small l v b i = freq-range s fs k l v (P .freqs) b i

@@ -12,9 +12,10 @@ use lib.Signed.{mag, leZ}
 use mir.Val.{SFits, hbits, toZ, ofZ}
 use mir.ValLaws.{toZ-pos, toZ-ofZ}
 use borrow.Author.Tests.{eqb-true, eqb-false, ltb-true, ltb-false, leb-true, eq-eqb, ne-eqb, lt-ltb, le-ltb, le-leb, lt-leb}
-use Rattle.sets.proofs.Tests.{bool, iff}
+use Rattle.sets.proofs.Tests.{bool, iff, and-l, and-in}
 use Rattle.sheet_rows.specs.Rows.{freq}
 use Rattle.pair_test.specs.Pairs.{distance, zeroOrMore, spareBy, spareFree}
+use Rattle.pair_test.specs.Range.{inRange}
 
 -- a − b by the order of the two
 sub-below : (a b : ℕ) → a < b → subℕ a b ≡ negsuc (b - suc a)
@@ -64,9 +65,9 @@ pub distance-same : (x : ℕ) → distance x x ≡ 0
 unfolding distance
 distance-same x = omega arith
 
-pub distance-most : (x y most : ℕ) → x ≤ most → y ≤ most → distance x y ≤ most
+pub distance-most : (x y most : ℕ) → (0 < x) × (x ≤ most) → (0 < y) × (y ≤ most) → distance x y + 1 ≤ most
 unfolding distance
-distance-most x y most f g = omega arith
+distance-most x y most f g = omega (arith, f, g)
 
 -- the spare of each kind, as the code tells it
 
@@ -134,18 +135,32 @@ pub free-turned : (fs : List ℕ) (u v : ℕ) → spareFree fs u v ≡ spareFree
 unfolding spareFree
 free-turned fs u v = rw (distance-turned (freq fs u) (freq fs v))
 
--- the range: the numbers of an accepted sheet are far below 2^29
-pub by-fits : (kind value w d : ℕ) (l : Bool) → ((kind ≡ 3 → ⊥) → value < 2 ^ 29) → w < 2 ^ 29 → d < 2 ^ 29
-    → SFits w32 (spareBy kind value w d l)
+-- the range
+
+pub sub-range : (a b : ℕ) → b ≤ a + 20039998 → a ≤ b + 19999995 → inRange (subℕ a b) ≡ true
+unfolding inRange
+sub-range a b f g = bool (ltb a b)
+    (λ e. let l = ltb-true a b e in rw e (and-in (le-leb (b - suc a) 20039997 (omega arith)) refl))
+    (λ e. let l = ltb-false a b e in rw e (le-leb (a - b) 19999995 (omega arith)))
+
+-- what is in it is an `i32`
+pub range-fits : (z : ℤ) → inRange z ≡ true → SFits w32 z
+unfolding inRange
+range-fits (pos n) h = record { sfits = let l = leb-true n 19999995 h in omega arith }
+range-fits (negsuc n) h = record { sfits = let l = leb-true n 20039997 (and-l (leb n 20039997) true h) in omega arith }
+
+-- a rule whose value, if it has no list, is 1 to 9,999,999, of frequencies of that range
+pub by-range : (kind value w d : ℕ) (l : Bool) → ((kind ≡ 3 → ⊥) → (0 < value) × (value ≤ 9999999)) → w ≤ 40000
+    → d ≤ 9999998 → inRange (spareBy kind value w d l) ≡ true
 unfolding spareBy distance
-by-fits kind value w d l f g h = bool (eqb kind 1)
+by-range kind value w d l f g h = bool (eqb kind 1)
     (λ e. let q = eqb-true kind 1 e in let z = f (λ p. omega arith) in
-    rw e (sub-fits w32 (2 * d) (2 * value + w) (omega arith) (omega arith)))
+    rw e (sub-range (2 * d) (2 * value + w) (omega arith) (omega arith)))
     (λ e. bool (eqb kind 2)
     (λ i. let q = eqb-true kind 2 i in let z = f (λ p. omega arith) in
-    rw (e, i) (sub-fits w32 0 (2 * distance d value) (omega arith) (omega arith)))
+    rw (e, i) (sub-range 0 (2 * distance d value) (omega arith) (omega arith)))
     (λ i. rw (e, i) (last (eqb kind 3 && l))))
   where
-    last : (b : Bool) → SFits w32 (cond b (pos 0) (negsuc 0))
-    last true = record { sfits = omega arith }
-    last false = record { sfits = omega arith }
+    last : (b : Bool) → inRange (cond b (pos 0) (negsuc 0)) ≡ true
+    last true = sub-range 0 0 (omega arith) (omega arith)
+    last false = sub-range 0 1 (omega arith) (omega arith)

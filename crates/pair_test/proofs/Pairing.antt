@@ -23,8 +23,9 @@ use Rattle.pair_test.specs.Pairs.{distance, ruleWidths, ofLinks, spareFr
 use Rattle.pair_test.specs.Layers.{InLink}
 use Rattle.pair_test.specs.Parts.{Parts}
 use Rattle.pair_test.specs.Asked.{ComeBefore, Sought}
-use Rattle.pair_test.proofs.Laws.{rule-links, widths-small, freq-small}
-use Rattle.pair_test.proofs.Numbers.{sub-fits, distance-most, free-turned, by-fits}
+use Rattle.pair_test.specs.Range.{inRange, SpareRange}
+use Rattle.pair_test.proofs.Laws.{parts-of, rule-links, widths-small, freq-small}
+use Rattle.pair_test.proofs.Numbers.{distance-most, free-turned, sub-range, range-fits, by-range}
 
 -- the links of a rule
 
@@ -149,29 +150,34 @@ module _ {s fs rs ps : List ℕ} {k n q t : ℕ} (P : Parts s fs rs ps k n q t) 
       (λ i m e. absurd (not-turned (ruleA rs j) (ruleB rs j) i (o .0) (omega arith) e))
       (λ n. refl)
 
-  -- in an accepted sheet the pair test gives an `i32`
+  -- the range of the pair test
   apart-small : (a b u v : ℕ) → a < k → b < k → InLink s a u → InLink s b v
-      → distance (freq fs u) (freq fs v) ≤ mostKHz
+      → distance (freq fs u) (freq fs v) + 1 ≤ mostKHz
   apart-small a b u v x y g h =
       distance-most (freq fs u) (freq fs v) mostKHz (freq-small P a u x g) (freq-small P b v y h)
 
-  row-fits : (j u v : ℕ) → j < q → InLink s (ruleA rs j) u → InLink s (ruleB rs j) v
-      → SFits w32 (spareRow s fs rs ps j u v)
+  row-range : (j u v : ℕ) → j < q → InLink s (ruleA rs j) u → InLink s (ruleB rs j) v
+      → inRange (spareRow s fs rs ps j u v) ≡ true
   unfolding spareRow
-  row-fits j u v l g h =
+  row-range j u v l g h =
       let o = rule-links P j l in
       let d = apart-small (ruleA rs j) (ruleB rs j) u v (omega arith) (o .1) g h in
-      by-fits (ruleKind rs j) (ruleValue rs j) (ruleWidths s rs j) (distance (freq fs u) (freq fs v)) _
-      (λ ne. omega (arith, rule-in rs k q t j (P .rules) l .plain ne .1)) (omega (arith, widths-small P j l)) (omega arith)
+      by-range (ruleKind rs j) (ruleValue rs j) (ruleWidths s rs j) (distance (freq fs u) (freq fs v)) _
+      (rule-in rs k q t j (P .rules) l .plain) (widths-small P j l) (omega arith)
 
+  pub spare-range : (a b u v : ℕ) → a < k → b < k → InLink s a u → InLink s b v
+      → inRange (spare s fs rs ps q a b u v) ≡ true
+  unfolding spareFree
+  spare-range a b u v x y g h = spare-when s fs rs ps (λ z. inRange z ≡ true) q a b u v
+      (λ j l e. let o = of-out rs a b j e in row-range j u v l (rw (o .0) g) (rw (o .1) h))
+      (λ j l e. let o = of-out rs b a j e in row-range j v u l (rw (o .0) h) (rw (o .1) g))
+      (λ n. let d = apart-small a b u v x y g h in
+      sub-range (2 * distance (freq fs u) (freq fs v)) 1 (omega arith) (omega arith))
+
+  -- so it is an `i32`
   pub spare-fits : (a b u v : ℕ) → a < k → b < k → InLink s a u → InLink s b v
       → SFits w32 (spare s fs rs ps q a b u v)
-  unfolding spareFree
-  spare-fits a b u v x y g h = spare-when s fs rs ps (SFits w32) q a b u v
-      (λ j l e. let o = of-out rs a b j e in row-fits j u v l (rw (o .0) g) (rw (o .1) h))
-      (λ j l e. let o = of-out rs b a j e in row-fits j v u l (rw (o .0) h) (rw (o .1) g))
-      (λ n. let d = apart-small a b u v x y g h in
-      sub-fits w32 (2 * distance (freq fs u) (freq fs v)) 1 (omega arith) (omega arith))
+  spare-fits a b u v x y g h = range-fits (spare s fs rs ps q a b u v) (spare-range a b u v x y g h)
 
   -- the rows rise, so that all up to one that comes before two links do
   pub before-upto : (a b j : ℕ) → j < q → before (ruleA rs j) (ruleB rs j) a b ≡ true → ComeBefore rs a b (j + 1)
@@ -234,3 +240,10 @@ none-higher a p = all-in (a + 1) _ (λ b l. or-l (p b) (le-leb b a (omega arith)
 
 pub higher-is : {a b : ℕ} {x : Bool} (r : Bool) → a < b → r ≡ x → r ≡ leb b a || x
 higher-is {a} {b} r l e = rw (lt-leb b a l) e
+
+-- the pair test of an accepted sheet is in its range
+pub in-range : SpareRange
+in-range = record {
+  within = λ s a b u v t.
+      spare-range (parts-of s (t .accepted)) a b u v (t .linkA) (t .linkB) (t .inA) (t .inB);
+}

@@ -3,3 +3,4 @@ pub mod Parts
 pub mod Pairs
 pub mod Asked
 pub mod Forms
+pub mod Range

@@ -16,6 +16,7 @@ ghost use Rattle.graph.specs.Strikes.{Rewritten};
 ghost use Rattle.strikes.specs.Struck.{StrikesAsked, leftOf};
 use channels::is_on_air;
 use cliques::Place;
+use graph::add_span;
 use sheet::freqs_at;
 use sheet::freqs_of;
 use sheet_rows::freq;
@@ -35,11 +36,7 @@ fn put_all(part: &mut [u64], w: usize, n: usize)
     ensures { λ _. ⌜ Put (whole n) w 0 (now (part .entry)) (now (part .exit)) ⌝ }
 {
     rows::clear(part, w, 0);
-    let mut v = 0;
-    while v < n {
-        rows::insert(part, w, 0, v);
-        v += 1;
-    }
+    add_span(part, w, 0, 0, n);
 }
 
 // Vertex v leaves the root row, if it is struck.
