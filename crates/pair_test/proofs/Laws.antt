@@ -3,7 +3,7 @@ use Prim.Native.Nat.{ℕ, zero, suc, _+_, _-_, _*_, _≤_, _<_}
 use mathlib.Core.Path.{_≡_, sym}
 use mathlib.Core.List.{List}
 use mathlib.Core.Logic.{_⊎_, inl, inr}
-use mathlib.Core.Bool.{Bool, true, false, _&&_}
+use mathlib.Core.Bool.{true, _&&_}
 use native.Mathlib.Numerals.{add-one}
 use native.Mathlib.Omega.{arith}
 use lib.ListN.{length, length-drop}
@@ -209,8 +209,11 @@ freq-range s fs k l v h b i =
 module _ {s fs rs ps : List ℕ} {k n q t : ℕ} (P : Parts s fs rs ps k n q t) where
   pub widths-small : (j : ℕ) → j < q → ruleWidths s rs j ≤ 2 * mostWidth
   unfolding ruleWidths
-  widths-small j b = let o = rule-links P j b in
-      omega (arith, width-most s k (ruleA rs j) (P .widths) (omega arith), width-most s k (ruleB rs j) (P .widths) (o .1))
+  widths-small j b =
+      let o = rule-links P j b in
+      let x = width-most s k (ruleA rs j) (P .widths) (omega arith) in
+      let y = width-most s k (ruleB rs j) (P .widths) (o .1) in
+      omega arith
 
   pub freq-small : (l v : ℕ) → l < k → InLink s l v → (0 < freq fs v) × (freq fs v ≤ mostKHz)
   freq-small l v b i = freq-range s fs k l v (P .freqs) b i

@@ -11,7 +11,7 @@ use mir.Syntax.{Width, w32, w64}
 use lib.Signed.{mag, leZ}
 use mir.Val.{SFits, hbits, toZ, ofZ}
 use mir.ValLaws.{toZ-pos, toZ-ofZ}
-use borrow.Author.Tests.{eqb-true, eqb-false, ltb-true, ltb-false, leb-true, eq-eqb, ne-eqb, lt-ltb, le-ltb, le-leb, lt-leb}
+use borrow.Author.Tests.{eqb-true, eqb-false, ltb-true, ltb-false, leb-true, ne-eqb, lt-ltb, le-ltb, le-leb, lt-leb}
 use Rattle.sets.proofs.Tests.{bool, iff, and-l, and-in}
 use Rattle.sheet_rows.specs.Rows.{freq}
 use Rattle.pair_test.specs.Pairs.{distance, zeroOrMore, spareBy, spareFree}

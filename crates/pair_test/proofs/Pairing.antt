@@ -15,7 +15,7 @@ use mir.Val.{SFits}
 use borrow.Author.Tests.{eqb-true, ltb-true, eq-eqb, lt-ltb, le-leb, lt-leb}
 use Rattle.sets.specs.Below.{all}
 use Rattle.sets.proofs.Below.{all-in}
-use Rattle.sets.proofs.Tests.{clash, bool, is-false, below, eqb-turned, and-l, and-r, and-in, or-l, or-r, or-case}
+use Rattle.sets.proofs.Tests.{clash, bool, is-false, below, and-l, and-r, and-in, or-l, or-r, or-case}
 use Rattle.sheet_rows.specs.Rows.{freq, ruleA, ruleB, ruleKind, ruleValue}
 use Rattle.sheet.specs.Sheet.{mostKHz, before}
 use Rattle.sheet.proofs.Rules.{After, rule-in, rule-after}
@@ -144,7 +144,9 @@ module _ {s fs rs ps : List ℕ} {k n q t : ℕ} (P : Parts s fs rs ps k n q t) 
 
   -- until rule j its links have no rule
   pub spare-yet : (j u v : ℕ) → j < q → spare s fs rs ps j (ruleA rs j) (ruleB rs j) u v ≡ spareFree fs u v
-  spare-yet j u v l = let o = rule-links P j l in spare-when s fs rs ps (λ z. z ≡ spareFree fs u v) j (ruleA rs j) (ruleB rs j) u v
+  spare-yet j u v l =
+      let o = rule-links P j l in
+      spare-when s fs rs ps (λ z. z ≡ spareFree fs u v) j (ruleA rs j) (ruleB rs j) u v
       (λ i m e. let x = of-out rs (ruleA rs j) (ruleB rs j) i e in
       let z = one-rule i j (omega arith) l (x .0) (x .1) in absurd (omega arith))
       (λ i m e. absurd (not-turned (ruleA rs j) (ruleB rs j) i (o .0) (omega arith) e))

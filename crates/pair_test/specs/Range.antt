@@ -7,8 +7,8 @@ use lib.IntN.{ℤ, pos, negsuc}
 use lib.Signed.{leZ}
 use Rattle.pair_test.specs.Asked.{TwoAt, spareIn}
 
--- from −20,039,998 half kHz, one frequency under kind 1 with the largest value and widths, to 19,999,995, the lowest and
--- the highest frequency without a rule
+-- from −20,039,998 half kHz, one frequency under kind 1 with the largest value and widths, to 19,999,995, the lowest
+-- and the highest frequency without a rule
 unfoldable pub inRange : ℤ → Bool
 inRange z = leZ (negsuc 20039997) z && leZ z (pos 19999995)
 

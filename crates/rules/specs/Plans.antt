@@ -32,7 +32,8 @@ vertexOf s fs l x = linkFirst s l + placeOf fs (linkFirst s l) (linkCount s l) x
 unfoldable pub inLists : List ℕ → List ℕ → (ℕ → ℕ) → ℕ → Bool
 inLists s fs cells l = hasFreq s fs l (cells l)
 
--- what the frequencies taken for links a and b have to spare, and whether they are allowed: "zero or more means allowed"
+-- what the frequencies taken for links a and b have to spare, and whether they are allowed: "zero or more means
+-- allowed"
 unfoldable pub spareTaken : List ℕ → List ℕ → List ℕ → List ℕ → ℕ → (ℕ → ℕ) → ℕ → ℕ → ℤ
 spareTaken s fs rs ps q cells a b = spare s fs rs ps q a b (vertexOf s fs a (cells a)) (vertexOf s fs b (cells b))
 

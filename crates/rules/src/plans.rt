@@ -91,7 +91,8 @@ pub fn cells_listed(s: &[u8], cells: &[u32]) -> bool
 // The vertex of the cell of link l.
 fn cell_vertex(s: &[u8], cells: &[u32], l: usize) -> usize
     requires { ⌜ Taken (now s) (now cells) × (l < kOf (now s)) ⌝ }
-    ensures { λ r. ⌜ (r ≡ vertexIn (now (s .entry)) l (cellsOf (now (cells .entry)) l)) × InLink (now (s .entry)) l r ⌝ }
+    ensures { λ r. ⌜ (r ≡ vertexIn (now (s .entry)) l (cellsOf (now (cells .entry)) l))
+        × InLink (now (s .entry)) l r ⌝ }
 {
     vertex(s, l, wide(cells[l]))
 }

@@ -5,13 +5,14 @@ use mathlib.Core.List.{List}
 use mathlib.Core.Bool.{Bool, true, false, cond, _&&_, _||_}
 use mathlib.Core.Logic.{_⊎_, inl, inr}
 use native.Mathlib.Omega.{arith}
-use lib.Dec.{eqb, ltb, leb}
+use lib.Dec.{eqb, ltb}
 use borrow.Author.Tests.{eqb-true, ltb-true, leb-true, ne-eqb}
 use Rattle.sets.specs.Below.{all, sumTo}
 use Rattle.sets.proofs.Tests.{and-out, or-case, below}
 use Rattle.sets.proofs.Below.{all-out, sum-in}
 use Rattle.sheet_rows.specs.Rows.{ruleA, ruleB, ruleKind, ruleCount, ruleValue}
-use Rattle.sheet.specs.Sheet.{mostKHz, before, plainOk, kindOk, only, listed, ruleRises, ruleRowOk, ruleOk, rulesOk}
+use Rattle.sheet.specs.Sheet.{mostKHz, before, plainOk, kindOk, only, listed}
+use Rattle.sheet.specs.Sheet.{ruleRises, ruleRowOk, ruleOk, rulesOk}
 
 -- the row test at the running sum is the test of the row
 pub rule-row-is : (p : List ℕ) (k j sum : ℕ) (r : Bool) → sum ≡ sumTo j (listed p) → r ≡ ruleRowOk p k sum j

@@ -37,8 +37,8 @@ few-places k h = mul-le-mul h h
 
 -- the answer
 
-pub answer-refused : (job : Job) (cells : List ℕ) (room : ℕ) (r : Reading) (x : Cause) → numberOf r ≡ refusal (job .sheet)
-    → r ≡ Refused x → causeNumber x ≡ answerFor job cells room
+pub answer-refused : (job : Job) (cells : List ℕ) (room : ℕ) (r : Reading) (x : Cause)
+    → numberOf r ≡ refusal (job .sheet) → r ≡ Refused x → causeNumber x ≡ answerFor job cells room
 unfolding answerFor
 answer-refused job cells room r x h e =
     let m : refusal (job .sheet) ≡ causeNumber x = sym h ∙ ap numberOf e in
@@ -72,7 +72,8 @@ judged-checked job cells room h = bool (eqb (refusal (job .sheet)) 0)
     let ne = eqb-false (refusal (job .sheet)) 0 e in
     clash _ z (judged-not (refusal (job .sheet)) (omega (arith, ne)) (omega (arith, refusal-most (job .sheet)))))
   where
-    few : (b : Bool) → judged (passing b 10 (λ _. 10)) ≡ true → (refusal (job .sheet) ≡ 0) × (kOf (job .sheet) ≤ length cells)
+    few : (b : Bool) → judged (passing b 10 (λ _. 10)) ≡ true
+        → (refusal (job .sheet) ≡ 0) × (kOf (job .sheet) ≤ length cells)
     few true z = clash _ z (judged-not 10 (omega arith) (omega arith))
     few false z = clash _ z (judged-not 10 (omega arith) (omega arith))
 

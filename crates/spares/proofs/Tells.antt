@@ -1,19 +1,18 @@
 -- A table that is shown tells which pair clashes.
-use Prim.Native.Nat.{ℕ, _*_, _≤_, _<_}
+use Prim.Native.Nat.{ℕ, _*_, _<_}
 use mathlib.Core.Path.{_≡_, refl, sym, ap, _∙_}
-use mathlib.Core.Bool.{Bool, true, false, _&&_, _||_}
+use mathlib.Core.Bool.{Bool, true, false}
 use mathlib.Core.List.{List}
 use native.Mathlib.Decide.{decLt}
 use native.Mathlib.Omega.{arith}
 use lib.Dec.{eqb, leb}
 use lib.ListN.{length}
-use borrow.Author.Tests.{eqb-true, eqb-false, leb-true, eq-eqb, ne-eqb, le-leb, lt-leb, leb-false}
+use borrow.Author.Tests.{eqb-true, eqb-false, eq-eqb, ne-eqb, le-leb, lt-leb, leb-false}
 use Rattle.sets.specs.Below.{all}
 use Rattle.sets.proofs.Tests.{bool, clash, and-l, and-r, and-in, or-l, or-r}
 use Rattle.sets.proofs.Below.{all-in, all-out}
 use Rattle.channels.specs.Channels.{channelsOk}
 use Rattle.sheet.specs.Sheet.{kOf, qOf, freqPart, rulePart, pairPart}
-use Rattle.sheet.specs.Refusal.{refusal}
 use Rattle.sheet.proofs.Accepted.{accepted}
 use Rattle.pair_test.specs.Pairs.{zeroOrMore}
 use Rattle.pair_test.specs.Range.{inRange}
@@ -53,7 +52,8 @@ module _ (job : Job) (cells : List ℕ) (room : ℕ) where
       (spare-turned s (freqPart s) (rulePart s) (pairPart s) (qOf s) a b _ _ ne))
 
   -- judged cells: what the answer tells
-  answer-told : judged (answerFor job cells room) ≡ true → answerFor job cells room ≡ yesNo (keepsJob job (cellsOf cells))
+  answer-told : judged (answerFor job cells room) ≡ true
+      → answerFor job cells room ≡ yesNo (keepsJob job (cellsOf cells))
   unfolding answerFor checked
   answer-told h =
       let o = judged-checked job cells room h in
@@ -73,7 +73,8 @@ module _ (job : Job) (cells : List ℕ) (room : ℕ) where
   judged-yes x e = rw e refl
 
   -- pairs that are kept, in either order, and kept pairs from a table without a clash
-  kept-pair : keepsJob job (cellsOf cells) ≡ true → (a b : ℕ) → a < b → b < k → zeroOrMore (cellsSpare s cells a b) ≡ true
+  kept-pair : keepsJob job (cellsOf cells) ≡ true → (a b : ℕ) → a < b → b < k
+      → zeroOrMore (cellsSpare s cells a b) ≡ true
   unfolding keepsJob keepsSheet keeps linkKept pairKept
   kept-pair h a b l x =
       let y = and-r (all k (cellListed s cells)) _ (and-r (all k _) _ h) in

@@ -14,7 +14,8 @@ use Rattle.spares.specs.Spares.{answerFor, shown}
 
 -- no number of the table is below zero, and no channel on air covers a cell
 pub record NoClash (job : Job) (cells : List ℕ) : Type 0 where
-  pub pairs : (a b : ℕ) → a < kOf (job .sheet) → b < kOf (job .sheet) → zeroOrMore (spareOf (job .sheet) cells a b) ≡ true
+  pub pairs : (a b : ℕ) → a < kOf (job .sheet) → b < kOf (job .sheet)
+      → zeroOrMore (spareOf (job .sheet) cells a b) ≡ true
   pub free : all (kOf (job .sheet)) (clear (job .channels) (cellsOf cells)) ≡ true
 
 -- the table reads the same by rows and by columns, its numbers are in their range, and the answer is yes exactly where

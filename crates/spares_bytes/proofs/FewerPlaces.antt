@@ -1,14 +1,14 @@
 -- A library lent 64 cells and 4,096 places gives the caller what one lent more gives: a sheet has at most 64 links, and
 -- the places past the table are zero.
 use mathlib.Core.Path.{_≡_, refl, sym, ap, _∙_}
-use mathlib.Core.Bool.{Bool, true, false, _&&_, cond}
+use mathlib.Core.Bool.{Bool, true, false}
 use mathlib.Core.List.{List}
 use Prim.Native.Nat.{ℕ, _*_, _/_, _%_, _^_, _≤_, _<_, min}
 use native.Mathlib.Nat.{min-eq-left, min-comm}
 use native.Mathlib.Omega.{arith}
 use lib.Dec.{eqb, ltb, leb}
 use lib.IntN.{ℤ, pos}
-use lib.ListN.{length, getD}
+use lib.ListN.{getD}
 use borrow.Author.Tests.{eqb-true, ltb-true, ltb-false, le-leb}
 use Rattle.sets.specs.Below.{tabulate}
 use Rattle.sets.proofs.Tests.{bool}
@@ -18,7 +18,7 @@ use Rattle.sheet.specs.Refusal.{refusal, passing}
 use Rattle.sheet.proofs.Accepted.{accepted}
 use Rattle.rules.specs.Job.{Job}
 use Rattle.rules.specs.Plans.{cellsOf, checked}
-use Rattle.spares.specs.Table.{spareAt, Tabled}
+use Rattle.spares.specs.Table.{Tabled}
 use Rattle.spares.specs.Spares.{answerFor, judged, shown, placeLeft}
 use Rattle.spares.proofs.Laws.{few-places, judged-checked, at-first-k, listed-first-k, left-past}
 use Rattle.byte_calls.specs.ByteCalls.{cellByte, cellBytes}

@@ -1,6 +1,6 @@
 -- `spares::is_judged` meets its contract: no cause has the number of no or yes.
 use borrow.Author.Needs.{needs}
-use mathlib.Core.Path.{_≡_, refl, sym}
+use mathlib.Core.Path.{refl, sym}
 use native.Mathlib.Omega.{arith}
 use Rattle.sheet.proofs.Causes.{cause-some, cause-most}
 use Rattle.spares.specs.Spares.{judged}

@@ -21,21 +21,17 @@ fill-requires c κs =
 
 returns : tie.Need-returns
 returns c =
-    let x = c .before .before .before .before .before in
-    let s = sym (shown-is _ _ _ _ (x .answer-for .ensures)) ∙ sym (c .before .before .before .before .is-shown .ensures) in
-    record {
-      answer = x .answer-for .ensures;
-      table = tabled-as (λ i l. left-shown _ _ _ i (s ∙ c .before .before .before .if1 .taken)) (c .before .fill .ensures);
-    }
+    let y = c .before .before .before in
+    let e = y .before .before .answer-for .ensures in
+    let s = sym (shown-is _ _ _ _ e) ∙ sym (y .before .is-shown .ensures) ∙ y .if1 .taken in
+    record { answer = e; table = tabled-as (λ i l. left-shown _ _ _ i s) (c .before .fill .ensures) }
 
 returns-2 : tie.Need-returns-2
 returns-2 c =
-    let x = c .before .before .before .before .before in
-    let s = sym (shown-is _ _ _ _ (x .answer-for .ensures)) ∙ sym (c .before .before .before .before .is-shown .ensures) in
-    record {
-      answer = x .answer-for .ensures;
-      table = tabled-as (λ i l. left-hidden _ _ _ i (s ∙ c .before .before .before .if1 .left)) (c .before .clear .ensures);
-    }
+    let y = c .before .before .before in
+    let e = y .before .before .answer-for .ensures in
+    let s = sym (shown-is _ _ _ _ e) ∙ sym (y .before .is-shown .ensures) ∙ y .if1 .left in
+    record { answer = e; table = tabled-as (λ i l. left-hidden _ _ _ i s) (c .before .clear .ensures) }
 
 pub spares-spec : {M : Type 1} → statement M
 spares-spec =

@@ -1,5 +1,5 @@
--- `spares_bytes::spares_bytes` meets its contract: as many cells and places are lent as there are in the bytes, up to 64
--- and 4,096.
+-- `spares_bytes::spares_bytes` meets its contract: as many cells and places are lent as there are in the bytes, up to
+-- 64 and 4,096.
 use borrow.Author.Needs.{needs}
 use denote.Ref.{now}
 use Prim.Native.Nat.{ℕ, _/_, min}

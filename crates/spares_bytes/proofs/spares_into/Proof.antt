@@ -1,15 +1,12 @@
 -- `spares_bytes::spares_into` meets its contract.
 use borrow.Author.Needs.{needs}
 use denote.Ref.{now}
-use mathlib.Core.Path.{_≡_, sym, ap, _∙_}
+use mathlib.Core.Path.{ap, _∙_}
 use mathlib.Core.List.{List}
 use native.Mathlib.Omega.{arith}
 use Prim.Native.Nat.{ℕ}
 use lib.ListN.{length}
-use Rattle.sets.specs.Below.{tabulate}
-use Rattle.rules.specs.Job.{jobWith}
-use Rattle.spares.specs.Spares.{answerFor, Answered}
-use Rattle.byte_calls.specs.ByteCalls.{cellIn, cellBytes}
+use Rattle.byte_calls.specs.ByteCalls.{cellBytes}
 use Rattle.spares_bytes.proofs.FewerPlaces.{table-bits}
 use Rattle.spares_bytes.proofs.spares_into.Statement.{statement}
 use Rattle.spares_bytes.proofs.spares_into.Tie as tie

@@ -1,5 +1,4 @@
 -- The lower of the two links comes first; turned round, the test is the same.
-use borrow.Author.Needs.{needs}
 use mathlib.Core.Path.{sym, _∙_}
 use native.Mathlib.Omega.{arith}
 use Rattle.pair_test.proofs.Numbers.{read-back}

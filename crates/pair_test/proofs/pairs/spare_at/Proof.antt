@@ -2,8 +2,7 @@
 use borrow.Author.Needs.{needs}
 use denote.Ref.{now}
 use mathlib.Core.Path.{_≡_, sym, _∙_}
-use mathlib.Core.Bool.{not}
-use lib.Dec.{eqb, ltb}
+use lib.Dec.{ltb}
 use native.Mathlib.Omega.{arith}
 use borrow.Author.Tests.{ltb-true, lt-ltb}
 use Rattle.sets.proofs.Tests.{and-l, and-r, is-false, and-in, clash}
@@ -55,7 +54,8 @@ freq-requires-2 c κs =
 cast-apart : tie.Need-cast-apart
 unfolding distance
 cast-apart c =
-    record { fits = omega (arith, c .distance .ensures, c .before .freq2 .ensures .1, c .before .before .freq .ensures .1) }
+    let d = c .distance .ensures in
+    record { fits = omega (arith, d, c .before .freq2 .ensures .1, c .before .before .freq .ensures .1) }
 
 returns-2 : tie.Need-returns-2
 unfolding spareFree

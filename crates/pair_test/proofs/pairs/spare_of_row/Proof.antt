@@ -1,6 +1,5 @@
 -- A rule of kind 3 looks at its list alone, and no other looks at it.
 use borrow.Author.Needs.{needs}
-use denote.Ref.{now}
 use mathlib.Core.Path.{_∙_}
 use native.Mathlib.Omega.{arith}
 use Rattle.pair_test.specs.Pairs.{distance, spareRow}
@@ -44,7 +43,8 @@ freq-requires-2 c κs =
 cast-apart : tie.Need-cast-apart
 unfolding distance
 cast-apart c =
-    record { fits = omega (arith, c .distance .ensures, c .before .freq2 .ensures .1, c .before .before .freq .ensures .1) }
+    let d = c .distance .ensures in
+    record { fits = omega (arith, d, c .before .freq2 .ensures .1, c .before .before .freq .ensures .1) }
 
 rule-widths-requires : tie.Need-rule-widths-requires
 rule-widths-requires c κs =

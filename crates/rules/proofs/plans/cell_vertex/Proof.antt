@@ -18,7 +18,8 @@ returns : tie.Need-returns
 returns c =
     let h = c .before .before .before .before .before .pre in
     let e = c .vertex .ensures in
-    (rw (← c .before .wide .ensures) e, rw (e, c .before .wide .ensures) (vertex-in _ _ _ _ (cell-taken (h .0) (h .1) .listed)))
+    let i = vertex-in _ _ _ _ (cell-taken (h .0) (h .1) .listed) in
+    (rw (← c .before .wide .ensures) e, rw (e, c .before .wide .ensures) i)
 
 pub cell-vertex-spec : {M : Type 1} → statement M
 cell-vertex-spec =

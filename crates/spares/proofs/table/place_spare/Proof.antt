@@ -1,5 +1,4 @@
 -- `spares::table::place_spare` meets its contract: row and column of a place are links, and the number is an `i32`.
-use borrow.Author.Needs.{needs}
 use Prim.Native.Nat.{_<_}
 use mathlib.Core.Path.{_≡_, refl, sym, ap, subst, _∙_}
 use native.Mathlib.Nat.{mod-lt}
