@@ -7,7 +7,6 @@ use report::item;
 use report::number;
 use report::text;
 use trial_beside::small_sheets;
-use trial_calls::more;
 use trial_parts::EQUALS;
 use trial_parts::first_bytes;
 use trial_parts::get;
@@ -23,8 +22,10 @@ use trial_parts::kept::NODE_SUMS;
 use trial_parts::kept::REFUSED;
 use trial_parts::kept::ROOM;
 use trial_parts::kept::ROWS;
+use trial_parts::kept::SPARES;
 use trial_parts::kept::WITH;
 use trial_parts::line_end;
+use trial_parts::more;
 use trial_parts::next;
 use trial_parts::next_run;
 use trial_parts::plus;
@@ -77,6 +78,7 @@ fn random_row(kept: &mut [usize], m: usize) -> bool {
     print_trees(&counted);
     put(kept, CALLS, get(&counted, CALLS));
     put(kept, CHECKS, get(&counted, CHECKS));
+    put(kept, SPARES, get(&counted, SPARES));
     true
 }
 
@@ -90,15 +92,21 @@ fn print_part(words: &[u8], from: usize, end: usize) {
     text(&words[from..end]);
 }
 
+fn print_calls(kept: &[usize]) {
+    item(b"; calls of planning:", get(kept, CALLS));
+    item(b", of the check:", get(kept, CHECKS));
+    item(b", for the spares:", get(kept, SPARES));
+    text(b"\n");
+}
+
 // A line that begins with `=`: its text, and the calls since the last such line.
 fn print_line(words: &[u8], kept: &mut [usize]) {
     let from = next(kept);
     print_part(words, from, line_end(words, from));
-    item(b"; calls of planning:", get(kept, CALLS));
-    item(b", of the check:", get(kept, CHECKS));
-    text(b"\n");
+    print_calls(kept);
     put(kept, CALLS, 0);
     put(kept, CHECKS, 0);
+    put(kept, SPARES, 0);
     put(kept, ROWS, 0);
 }
 

@@ -2,7 +2,6 @@
 ghost use mathlib.Core.Path.{_≡_};
 ghost use lib.ListN.{length};
 use crate::choices::beside;
-use trial_calls::more;
 use trial_job::fill;
 use trial_job::make_channels;
 use trial_job::make_job;
@@ -14,6 +13,7 @@ use trial_parts::kept::AIRED;
 use trial_parts::kept::CELLS;
 use trial_parts::kept::ON_AIR;
 use trial_parts::kept::SEED;
+use trial_parts::more;
 use trial_parts::put;
 
 // The job's sheet beside the brute-force solver, with a list of the sequence.

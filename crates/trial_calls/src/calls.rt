@@ -22,23 +22,17 @@ use trial_parts::kept::NUMBER;
 use trial_parts::kept::ON_AIR;
 use trial_parts::kept::PLAN;
 use trial_parts::kept::WANTED;
+use trial_parts::more;
 use trial_parts::narrow;
 use trial_parts::plus;
 use trial_parts::put;
 use trial_parts::put_bytes;
+use trial_spares::shows;
 
 // Any number of nodes; and the number wanted of a call that is to be accepted, whatever its answer.
 pub const ANY: usize = 4294967296;
 
 pub const ACCEPTED: usize = 0;
-
-pub fn more(kept: &mut [usize], what: usize)
-    ensures { λ _. ⌜ now (kept .exit) ≡
-        set (now (kept .entry)) what ((getD (now (kept .entry)) what 0 + 1) % 2 ^ 64) ⌝ }
-{
-    let n = get(kept, what);
-    put(kept, what, plus(n, 1));
-}
 
 // The limit of the next planning call, and the number and the nodes wanted of it.
 pub fn want(kept: &mut [usize], limit: usize, number: usize, nodes: usize)
@@ -169,7 +163,7 @@ fn checks_on(sheet: &[u8], channels: &[u8], cells: &[u32], number: usize) -> boo
 }
 
 // The same with the channels of the job.
-pub fn checks(kept: &mut [usize], sheet: &[u8], cells: &[u32], number: usize) -> bool
+fn is_checked(kept: &mut [usize], sheet: &[u8], cells: &[u32], number: usize) -> bool
     ensures { λ _. ⌜ now (kept .exit) ≡
         set (now (kept .entry)) 2 ((getD (now (kept .entry)) 2 0 + 1) % 2 ^ 64) ⌝ }
 {
@@ -182,6 +176,16 @@ pub fn checks(kept: &mut [usize], sheet: &[u8], cells: &[u32], number: usize) ->
         cells,
         number,
     )
+}
+
+// The same; and the call for a rack display gives that number too, with the table of the job.
+pub fn checks(kept: &mut [usize], sheet: &[u8], cells: &[u32], number: usize) -> bool
+    ensures { λ _. ⌜ length (now (kept .exit)) ≡ length (now (kept .entry)) ⌝ }
+{
+    if !is_checked(kept, sheet, cells, number) {
+        return false;
+    }
+    shows(kept, sheet, cells, number)
 }
 
 // Whether a planning call in these cells and words gives the number and the nodes wanted, the plan where it is found,
@@ -207,7 +211,7 @@ pub fn plans_in(
     if number != 100 {
         return true;
     }
-    checks(kept, sheet, cells, 100)
+    is_checked(kept, sheet, cells, 100)
 }
 
 // The same in cells and words of its own, which are not zero before.

@@ -7,7 +7,6 @@ mod trees;
 pub use calls::ACCEPTED;
 pub use calls::ANY;
 pub use calls::checks;
-pub use calls::more;
 pub use calls::plans;
 pub use calls::plans_in;
 pub use calls::want;

@@ -1,6 +1,7 @@
 // A small job's graph, read off its rules and its channels on air: the layer of each of 32 vertices, k where it is in
 // none, and after these a row of 32 for each, 1 where two are adjacent.
 ghost use mathlib.Core.Path.{_≡_};
+ghost use Prim.Native.Nat.{_^_, _<_};
 ghost use lib.ListN.{length};
 use trial_parts::count;
 use trial_parts::distance;
@@ -20,6 +21,9 @@ use trial_parts::put;
 use trial_parts::rule_at;
 use trial_parts::times;
 use trial_parts::widths;
+
+// A number of half kHz, which may be below zero, is kept without a sign: so much larger.
+pub const ZERO: usize = 2147483648;
 
 pub fn layer(graph: &[usize], v: usize) -> usize {
     get(graph, v)
@@ -104,32 +108,40 @@ fn is_listed(job: &[usize], from: usize, m: usize, i: usize, j: usize) -> bool {
     false
 }
 
-// Whether the rule of the links a < b of two vertices allows them. Kind 1 is between edges, all else between centres.
-// Without a rule their frequencies differ.
-fn allows(job: &[usize], a: usize, b: usize, u: usize, v: usize) -> bool {
+// What vertices u and v of the links a < b have to spare. Kind 1 is between edges, all else between centres.
+fn spare_upward(job: &[usize], a: usize, b: usize, u: usize, v: usize) -> usize {
     let at = rule_of(job, a, b);
     let apart = distance(khz(job, u), khz(job, v));
     if at == 0 {
-        return apart != 0;
+        return less(plus(ZERO, plus(apart, apart)), 1);
     }
     let kind = get(job, plus(at, 2));
     let value = get(job, plus(at, 4));
     if kind == 1 {
-        return plus(plus(value, value), widths(job, a, b)) <= plus(apart, apart);
+        let asked = plus(plus(value, value), widths(job, a, b));
+        return less(plus(ZERO, plus(apart, apart)), asked);
     }
     if kind == 2 {
-        return value == apart;
+        let off = distance(apart, value);
+        return less(ZERO, plus(off, off));
     }
-    is_listed(
-        job,
-        value,
-        get(job, plus(at, 3)),
-        less(u, first(job, a)),
-        less(v, first(job, b)),
-    )
+    let i = less(u, first(job, a));
+    let j = less(v, first(job, b));
+    let listed = is_listed(job, value, get(job, plus(at, 3)), i, j);
+    either(listed, ZERO, less(ZERO, 1))
 }
 
-// Whether two vertices are adjacent. A struck one has no neighbours.
+// What vertices u and v of two links a and b have to spare, a number of half kHz that 32 bits hold.
+pub fn spare(job: &[usize], a: usize, b: usize, u: usize, v: usize) -> usize
+    ensures { λ r. ⌜ r < 2 ^ 32 ⌝ }
+{
+    if a < b {
+        return spare_upward(job, a, b, u, v) % 4294967296;
+    }
+    spare_upward(job, b, a, v, u) % 4294967296
+}
+
+// Whether two vertices are adjacent: of two links, with no less than zero to spare. A struck one has no neighbours.
 fn adjacent(job: &[usize], u: usize, v: usize) -> bool {
     let k = get(job, K);
     let a = layer_of(job, u);
@@ -140,13 +152,10 @@ fn adjacent(job: &[usize], u: usize, v: usize) -> bool {
     if k <= b {
         return false;
     }
-    if a < b {
-        return allows(job, a, b, u, v);
+    if a == b {
+        return false;
     }
-    if b < a {
-        return allows(job, b, a, v, u);
-    }
-    false
+    ZERO <= spare(job, a, b, u, v)
 }
 
 // Vertex u's layer, and whether it is adjacent to v.

@@ -5,7 +5,9 @@ mod brute;
 mod classes;
 mod lists;
 
+pub use adjacency::ZERO;
 pub use adjacency::fill;
+pub use adjacency::spare;
 pub use brute::codes;
 pub use brute::first_plan;
 pub use brute::pairs_kept;

@@ -26,6 +26,7 @@ pub use trial_tables::get_cell;
 pub use trial_tables::kept;
 pub use trial_tables::khz;
 pub use trial_tables::less;
+pub use trial_tables::more;
 pub use trial_tables::narrow;
 pub use trial_tables::plus;
 pub use trial_tables::put;

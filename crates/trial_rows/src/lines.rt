@@ -31,6 +31,7 @@ use trial_parts::put_cell;
 use trial_parts::put_half;
 use trial_parts::put_word;
 use trial_parts::want_firsts;
+use trial_spares::display_row;
 
 // The words that begin a row on a sheet, by their first bytes.
 const ALTER: usize = 97;
@@ -38,6 +39,8 @@ const ALTER: usize = 97;
 const BESIDE: usize = 98;
 
 const CHECK: usize = 99;
+
+const DISPLAY: usize = 100;
 
 const FIRST: usize = 102;
 
@@ -245,6 +248,9 @@ fn called_row(kept: &mut [usize], word: usize, sheet: &[u8], list: &[u8]) -> boo
     }
     if word == CHECK {
         return check_row(kept, sheet);
+    }
+    if word == DISPLAY {
+        return display_row(kept, sheet);
     }
     if word == TAKES {
         return takes_row(kept, sheet);

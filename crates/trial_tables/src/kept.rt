@@ -38,6 +38,9 @@ pub const NUMBER: usize = 13;
 
 pub const WANTED: usize = 14;
 
+// Calls for the spares since the last line printed.
+pub const SPARES: usize = 15;
+
 // The nodes of all trees beside the brute-force solver: eight filter numbers for each choice.
 pub const NODE_SUMS: usize = 24;
 

@@ -21,6 +21,7 @@ pub use parts::get;
 pub use parts::get_byte;
 pub use parts::get_cell;
 pub use parts::less;
+pub use parts::more;
 pub use parts::narrow;
 pub use parts::plus;
 pub use parts::put;

@@ -68,6 +68,14 @@ pub fn plus(a: usize, b: usize) -> usize
     std::num::wrapping_add_usize(a, b)
 }
 
+// One more at place i.
+pub fn more(s: &mut [usize], i: usize)
+    ensures { λ _. ⌜ now (s .exit) ≡ set (now (s .entry)) i ((getD (now (s .entry)) i 0 + 1) % 2 ^ 64) ⌝ }
+{
+    let n = get(s, i);
+    put(s, i, plus(n, 1));
+}
+
 // a less b, and 0 where b is larger.
 pub fn less(a: usize, b: usize) -> usize
     ensures { λ r. ⌜ r ≡ a - b ⌝ }

@@ -1,7 +1,7 @@
 -- `more`: the number read is the one that the table has.
 use borrow.Author.Needs.{needs}
-use Rattle.trial_calls.proofs.calls.more.Statement.{statement}
-use Rattle.trial_calls.proofs.calls.more.Tie as tie
+use Rattle.trial_tables.proofs.parts.more.Statement.{statement}
+use Rattle.trial_tables.proofs.parts.more.Tie as tie
 
 get-requires : tie.Need-get-requires
 get-requires c κs = search needs
