@@ -7,6 +7,7 @@ use Rattle.sheet_rows.specs.Rows
 use Rattle.sheet.specs.Sheet
 use Rattle.sheet.specs.Refusal
 use Rattle.rules.specs.Job
+use Rattle.spacing.specs.Spacing
 use Rattle.pair_test.specs.Pairs
 use Rattle.pair_test.specs.Layers
 use Rattle.rules.specs.Plans
@@ -65,8 +66,8 @@ unfolding Table.spareOf Table.spareAt Spares.answerFor Spares.judged Spares.show
 openSpares = tt
 
 unfoldable pub openGraph : Unit {0}
-unfolding Pairs.distance Pairs.samePair Pairs.listsPair Pairs.zeroOrMore Pairs.spareBy Pairs.ruleWidths
-    Pairs.ofLinks Pairs.spareFree Pairs.spareRow Pairs.spare Layers.layerOf
+unfolding Spacing.distance Spacing.zeroOrMore Spacing.spareBy Spacing.spareWithout Pairs.samePair Pairs.listsPair
+    Pairs.ruleWidths Pairs.ofLinks Pairs.spareFree Pairs.spareRow Pairs.spare Layers.layerOf
     Micro.linksDiffer Micro.adjacent Graph.inClass Graph.size Graph.some Graph.lone Graph.two Graph.lower Graph.higher
     Graph.isOpen Listing.byLayer
 openGraph = tt

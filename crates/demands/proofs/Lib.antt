@@ -3,3 +3,4 @@ pub mod Demands
 pub mod CallDemands
 pub mod SameGraph
 pub mod NoList
+pub mod EmptyLink

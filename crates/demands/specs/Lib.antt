@@ -2,3 +2,4 @@ pub mod Demands
 pub mod CallDemands
 pub mod SameGraph
 pub mod NoList
+pub mod EmptyLink

@@ -7,16 +7,18 @@ use native.Mathlib.Omega.{arith}
 use lib.Dec.{ltb, eqb}
 use lib.ListN.{length, getD}
 use borrow.Author.Tests.{lt-ltb, eq-eqb, ne-eqb, ltb-true, ltb-false, eqb-true, eqb-false}
-use Rattle.sets.specs.Below.{all, any, first, count}
-use Rattle.sets.proofs.Tests.{bool, clash, is-false, iff, below, and-l, and-r, and-in, not-in}
+use Rattle.sets.specs.Below.{any, first, count}
+use Rattle.sets.proofs.Tests.{bool, clash, is-false, iff, and-l, and-r, and-in, not-in}
 use Rattle.sets.proofs.Below.{any-in, first-lt, first-is, sum-in, count-le, count-less}
 use Rattle.sheet_rows.specs.Rows.{linkFirst, pairFirst}
 use Rattle.sheet.specs.Sheet.{mostKHz}
 use Rattle.pair_test.specs.Layers.{layerOf, InLink}
-use Rattle.pair_test.specs.Pairs.{distance, samePair, listsPair, zeroOrMore, spareBy, ofLinks, spareFree, spareRow}
+use Rattle.spacing.specs.Spacing.{distance, zeroOrMore, spareBy}
+use Rattle.pair_test.specs.Pairs.{samePair, listsPair, ofLinks, spareFree, spareRow}
 use Rattle.pair_test.specs.Pairs.{spare}
 use Rattle.pair_test.proofs.Laws.{layer-in}
-use Rattle.pair_test.proofs.Numbers.{near-barred, three-allowed, free-allowed}
+use Rattle.spacing.proofs.Spacing.{near-barred, three-allowed}
+use Rattle.pair_test.proofs.Pairing.{free-allowed}
 use Rattle.pair_test.proofs.Pairing.{of-in, of-out, spare-when}
 use Rattle.graph.specs.Graph.{linksDiffer, adjacent}
 use Rattle.graph.proofs.Graph.{adjacent-out, adjacent-sym}

@@ -10,7 +10,8 @@ use Rattle.sheet.specs.Sheet.{kOf, nOf, qOf, freqPart, rulePart, pairPart}
 use Rattle.sheet.specs.Accepted.{Accepted}
 use Rattle.rules.specs.Job.{Job, struck, unstruck}
 use Rattle.pair_test.specs.Layers.{layerOf}
-use Rattle.pair_test.specs.Pairs.{zeroOrMore, spare}
+use Rattle.spacing.specs.Spacing.{zeroOrMore}
+use Rattle.pair_test.specs.Pairs.{spare}
 use Rattle.pair_test.proofs.Laws.{layer-in}
 use Rattle.pair_test.proofs.Pairing.{spare-turned}
 use Rattle.cliques.specs.Graph.{Clique, Layers}

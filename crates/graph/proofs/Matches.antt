@@ -21,7 +21,8 @@ use Rattle.sheet.specs.Refusal.{passing, refusal}
 use Rattle.sheet.proofs.Accepted.{accepted, refusal-most}
 use Rattle.rules.specs.Job.{Job, jobOf, struck, unstruck}
 use Rattle.pair_test.specs.Layers.{layerOf, InLink}
-use Rattle.pair_test.specs.Pairs.{zeroOrMore, spare}
+use Rattle.spacing.specs.Spacing.{zeroOrMore}
+use Rattle.pair_test.specs.Pairs.{spare}
 use Rattle.pair_test.specs.Parts.{Parts}
 use Rattle.rules.specs.Plans.{placeOf, hasFreq, vertexOf, inLists, spareTaken, pairKept, linkKept, keeps, cellsOf}
 use Rattle.rules.specs.Plans.{keepsSheet}

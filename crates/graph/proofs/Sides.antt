@@ -16,11 +16,12 @@ use Rattle.sheet_rows.specs.Rows.{ruleKind, ruleCount, ruleValue, pairFirst, pa
 use Rattle.sheet.specs.Sheet.{listed, pairOk, rulePairsOk, pairsOk}
 use Rattle.sheet.proofs.Links.{link-in}
 use Rattle.sheet.proofs.Rules.{rule-in}
-use Rattle.pair_test.specs.Pairs.{distance, listsPair, zeroOrMore, spareBy, ruleWidths, spareFree, spareRow}
+use Rattle.spacing.specs.Spacing.{distance, zeroOrMore, spareBy}
+use Rattle.pair_test.specs.Pairs.{listsPair, ruleWidths, spareFree, spareRow}
 use Rattle.pair_test.specs.Parts.{Parts}
 use Rattle.pair_test.proofs.Laws.{rule-links, widths-small}
-use Rattle.pair_test.proofs.Numbers.{distance-turned, distance-same, by-plain, three-allowed, equal-barred}
-use Rattle.pair_test.proofs.Numbers.{free-allowed}
+use Rattle.spacing.proofs.Spacing.{distance-turned, distance-same, by-plain, three-allowed, equal-barred}
+use Rattle.pair_test.proofs.Pairing.{free-allowed}
 use Rattle.graph.specs.declared.Side.{Side}
 use Rattle.graph.specs.Strikes.{stretch, sideOf, otherPlace, partners, clashing, allowed, SideFits}
 use Rattle.graph.proofs.Spans.{stretch-out}

@@ -7,7 +7,8 @@ use lib.Dec.{ltb, eqb}
 use Rattle.sheet.specs.Sheet.{kOf, nOf, qOf, freqPart, rulePart, pairPart}
 use Rattle.rules.specs.Job.{Job, struck}
 use Rattle.pair_test.specs.Layers.{layerOf}
-use Rattle.pair_test.specs.Pairs.{zeroOrMore, spare}
+use Rattle.spacing.specs.Spacing.{zeroOrMore}
+use Rattle.pair_test.specs.Pairs.{spare}
 use Rattle.cliques.specs.Graph.{Graph}
 
 -- u and v are among the n vertices, "their links differ"

@@ -8,7 +8,8 @@ use lib.ListN.{length}
 use Rattle.sets.specs.Sets.{Set, _⊆_, _∩_, _∪_, _∖_}
 use Rattle.sheet_rows.specs.Rows.{freqBytes, pairBytes, linkFirst, linkCount, linkWidth, freq}
 use Rattle.sheet_rows.specs.Rows.{ruleKind, ruleCount, ruleValue, pairFirst, pairSecond}
-use Rattle.pair_test.specs.Pairs.{distance, samePair, listsPair, zeroOrMore, spareBy}
+use Rattle.spacing.specs.Spacing.{distance, zeroOrMore, spareBy}
+use Rattle.pair_test.specs.Pairs.{samePair, listsPair}
 use Rattle.rows.specs.Rows.{rowAt, Outside}
 use Rattle.graph.specs.declared.Side.{Side}
 

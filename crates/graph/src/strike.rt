@@ -11,9 +11,6 @@ ghost use Rattle.graph.specs.Strikes.{allowed, underRule, NumbersFit, Pa
 use crate::Side;
 use crate::span::take_span;
 use cliques::Place;
-use pair_test::distance;
-use pair_test::is_allowed;
-use pair_test::spare_by;
 use sheet_rows::freq;
 use sheet_rows::link_count;
 use sheet_rows::link_first;
@@ -23,6 +20,9 @@ use sheet_rows::pair_second;
 use sheet_rows::rule_count;
 use sheet_rows::rule_kind;
 use sheet_rows::rule_value;
+use spacing::distance;
+use spacing::is_allowed;
+use spacing::spare_by;
 
 // Rule row j seen from its link a to its link b.
 pub fn side(sheet: &[u8], rs: &[u8], j: usize, turned: bool, a: usize, b: usize) -> Side

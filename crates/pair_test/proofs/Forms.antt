@@ -10,7 +10,7 @@ use Rattle.sheet_rows.proofs.Rows.{one-is}
 use Rattle.sheet.proofs.Links.{no-widths}
 use Rattle.pair_test.specs.Pairs.{ruleWidths, spareRow}
 use Rattle.pair_test.specs.Forms.{FormOne, FormOneKeepsItsRule}
-use Rattle.pair_test.proofs.Numbers.{centres-allowed}
+use Rattle.spacing.proofs.Spacing.{centres-allowed}
 
 module _ (s : List ℕ) (one : le32 s 0 ≡ 1) where
   form : formOf s ≡ formBy 1

@@ -1,4 +1,3 @@
 pub mod Laws
-pub mod Numbers
 pub mod Pairing
 pub mod Forms

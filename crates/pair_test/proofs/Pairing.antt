@@ -4,14 +4,12 @@ use Prim.Native.Nat.{ℕ, zero, suc, _+_, _*_, _≤_, _<_}
 use mathlib.Core.Path.{_≡_, refl, sym, _∙_}
 use mathlib.Core.List.{List}
 use mathlib.Core.Logic.{_⊎_, inl, inr}
-use mathlib.Core.Bool.{Bool, true, false, _&&_, _||_}
+use mathlib.Core.Bool.{Bool, true, false, not, _&&_, _||_}
 use native.Mathlib.Decide.{decLt}
 use native.Mathlib.Omega.{arith}
 use native.Mathlib.Numerals.{add-one}
 use lib.Dec.{eqb, ltb, leb}
 use lib.IntN.{ℤ}
-use mir.Syntax.{w32}
-use mir.Val.{SFits}
 use borrow.Author.Tests.{eqb-true, ltb-true, eq-eqb, lt-ltb, le-leb, lt-leb}
 use Rattle.sets.specs.Below.{all}
 use Rattle.sets.proofs.Below.{all-in}
@@ -19,13 +17,14 @@ use Rattle.sets.proofs.Tests.{clash, bool, is-false, below, and-l, and-r, and-i
 use Rattle.sheet_rows.specs.Rows.{freq, ruleA, ruleB, ruleKind, ruleValue}
 use Rattle.sheet.specs.Sheet.{mostKHz, before}
 use Rattle.sheet.proofs.Rules.{After, rule-in, rule-after}
-use Rattle.pair_test.specs.Pairs.{distance, ruleWidths, ofLinks, spareFree, spareRow, spare}
+use Rattle.spacing.specs.Spacing.{distance, zeroOrMore, spareWithout, inRange}
+use Rattle.spacing.proofs.Spacing.{distance-turned, distance-most, without-allowed, sub-range, by-range}
+use Rattle.pair_test.specs.Pairs.{ruleWidths, ofLinks, spareFree, spareRow, spare}
 use Rattle.pair_test.specs.Layers.{InLink}
 use Rattle.pair_test.specs.Parts.{Parts}
 use Rattle.pair_test.specs.Asked.{ComeBefore, Sought}
-use Rattle.pair_test.specs.Range.{inRange, SpareRange}
+use Rattle.pair_test.specs.Range.{SpareRange}
 use Rattle.pair_test.proofs.Laws.{parts-of, rule-links, widths-small, freq-small}
-use Rattle.pair_test.proofs.Numbers.{distance-most, free-turned, sub-range, range-fits, by-range}
 
 -- the links of a rule
 
@@ -84,6 +83,14 @@ before-next {rs} {a} {b} d g h = record {
 }
 
 -- the pair test
+
+pub free-allowed : (fs : List ℕ) (u v : ℕ) → zeroOrMore (spareFree fs u v) ≡ not (eqb (freq fs u) (freq fs v))
+unfolding spareFree
+free-allowed fs u v = without-allowed (freq fs u) (freq fs v)
+
+free-turned : (fs : List ℕ) (u v : ℕ) → spareFree fs u v ≡ spareFree fs v u
+unfolding spareFree
+free-turned fs u v = rw (distance-turned (freq fs u) (freq fs v))
 
 module _ (s fs rs ps : List ℕ) where
   -- what holds of all that the rules of the two links leave and, without one, of what is left then, holds of it
@@ -169,17 +176,12 @@ module _ {s fs rs ps : List ℕ} {k n q t : ℕ} (P : Parts s fs rs ps k n q t) 
 
   pub spare-range : (a b u v : ℕ) → a < k → b < k → InLink s a u → InLink s b v
       → inRange (spare s fs rs ps q a b u v) ≡ true
-  unfolding spareFree
+  unfolding spareFree spareWithout
   spare-range a b u v x y g h = spare-when s fs rs ps (λ z. inRange z ≡ true) q a b u v
       (λ j l e. let o = of-out rs a b j e in row-range j u v l (rw (o .0) g) (rw (o .1) h))
       (λ j l e. let o = of-out rs b a j e in row-range j v u l (rw (o .0) h) (rw (o .1) g))
       (λ n. let d = apart-small a b u v x y g h in
       sub-range (2 * distance (freq fs u) (freq fs v)) 1 (omega arith) (omega arith))
-
-  -- so it is an `i32`
-  pub spare-fits : (a b u v : ℕ) → a < k → b < k → InLink s a u → InLink s b v
-      → SFits w32 (spare s fs rs ps q a b u v)
-  spare-fits a b u v x y g h = range-fits (spare s fs rs ps q a b u v) (spare-range a b u v x y g h)
 
   -- the rows rise, so that all up to one that comes before two links do
   pub before-upto : (a b j : ℕ) → j < q → before (ruleA rs j) (ruleB rs j) a b ≡ true → ComeBefore rs a b (j + 1)

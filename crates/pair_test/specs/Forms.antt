@@ -9,7 +9,8 @@ use Rattle.wire.specs.Fields.{le16, le32}
 use Rattle.sheet_rows.specs.Form.{formOf}
 use Rattle.sheet_rows.specs.Rows.{linkFirst, linkCount, freq, ruleKind, ruleValue}
 use Rattle.sheet.specs.Sheet.{kOf, nOf, qOf, widthsOk, freqPart, rulePart, pairPart}
-use Rattle.pair_test.specs.Pairs.{distance, zeroOrMore, spareRow}
+use Rattle.spacing.specs.Spacing.{distance, zeroOrMore}
+use Rattle.pair_test.specs.Pairs.{spareRow}
 
 -- A sheet of form 1 is read and judged as document 01 says, so that all definitions give what they gave: its form is
 -- known, "k is 1 to 64, n 1 to 512", a link row is "16-bit first frequency, 16-bit count" in four bytes, "the offsets

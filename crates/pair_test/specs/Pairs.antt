@@ -1,17 +1,14 @@
 -- The pair test: how much spacing a vertex of each of two links has to spare, under their rule or without one. It
 -- "hands back a signed number of half kHz".
-use Prim.Native.Nat.{ℕ, zero, suc, _+_, _-_, _*_}
+use Prim.Native.Nat.{ℕ, zero, suc, _+_, _-_}
 use mathlib.Core.List.{List}
-use mathlib.Core.Bool.{Bool, true, false, cond, _&&_}
+use mathlib.Core.Bool.{Bool, cond, _&&_}
 use lib.Dec.{eqb}
-use lib.IntN.{ℤ, pos, negsuc, subℕ}
+use lib.IntN.{ℤ}
 use Rattle.sets.specs.Below.{any}
+use Rattle.spacing.specs.Spacing.{distance, spareBy, spareWithout}
 use Rattle.sheet_rows.specs.Rows.{linkFirst, linkWidth, freq, ruleA, ruleB, ruleKind, ruleCount, ruleValue}
 use Rattle.sheet_rows.specs.Rows.{pairFirst, pairSecond}
-
--- how far two frequencies differ, "either one being higher"
-unfoldable pub distance : ℕ → ℕ → ℕ
-distance x y = (x - y) + (y - x)
 
 -- pair row i is the pair of positions x and y
 unfoldable pub samePair : List ℕ → ℕ → ℕ → ℕ → Bool
@@ -21,20 +18,6 @@ samePair p x y i = eqb (pairFirst p i) x && eqb (pairSecond p i) y
 unfoldable pub listsPair : List ℕ → ℕ → ℕ → ℕ → ℕ → Bool
 listsPair p base count x y = any count (λ i. samePair p x y (base + i))
 
--- A number of half kHz, which may be below zero, is what there is less what is asked: `subℕ a b` is a − b. "zero or
--- more means allowed"
-unfoldable pub zeroOrMore : ℤ → Bool
-zeroOrMore (pos n) = true
-zeroOrMore (negsuc n) = false
-
--- "Kind 1 gives twice (difference − value), in form 2 less both widths", whose sum is `widths`; it is 0 in form 1.
--- "Kind 2 gives minus twice the distance from value. Kind 3 gives 0 or −1", 0 where the pair is listed
-unfoldable pub spareBy : ℕ → ℕ → ℕ → ℕ → Bool → ℤ
-spareBy kind value widths apart listed =
-    cond (eqb kind 1) (subℕ (2 * apart) (2 * value + widths))
-    (cond (eqb kind 2) (subℕ 0 (2 * distance apart value))
-    (cond (eqb kind 3 && listed) (pos 0) (negsuc 0)))
-
 -- the widths of the two links of rule row j together
 unfoldable pub ruleWidths : List ℕ → List ℕ → ℕ → ℕ
 ruleWidths s rs j = linkWidth s (ruleA rs j) + linkWidth s (ruleB rs j)
@@ -43,9 +26,9 @@ ruleWidths s rs j = linkWidth s (ruleA rs j) + linkWidth s (ruleB rs j)
 unfoldable pub ofLinks : List ℕ → ℕ → ℕ → ℕ → Bool
 ofLinks rs a b j = eqb (ruleA rs j) a && eqb (ruleB rs j) b
 
--- "No rule gives twice the difference, less 1"
+-- what vertices u and v have to spare without a rule
 unfoldable pub spareFree : List ℕ → ℕ → ℕ → ℤ
-spareFree fs u v = subℕ (2 * distance (freq fs u) (freq fs v)) 1
+spareFree fs u v = spareWithout (distance (freq fs u) (freq fs v))
 
 -- the sheet, whose form says what its link rows have, and its frequency, rule and pair sections
 module _ (s fs rs ps : List ℕ) where

@@ -5,13 +5,9 @@ mod lists;
 mod pairs;
 mod parts;
 mod seek;
-mod spacing;
 
 pub use layers::layer;
 pub use pairs::spare;
 pub use pairs::spare_at;
 pub use parts::freq_part;
 pub use seek::seek_rule;
-pub use spacing::distance;
-pub use spacing::is_allowed;
-pub use spacing::spare_by;

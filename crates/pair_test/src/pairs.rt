@@ -11,9 +11,6 @@ use crate::lists::lists_vertices;
 use crate::parts::freq_part;
 use crate::parts::rule_part;
 use crate::seek::find_rule;
-use crate::spacing::distance;
-use crate::spacing::spare_by;
-use crate::spacing::spare_free;
 use sheet::rules_of;
 use sheet_rows::freq;
 use sheet_rows::link_width;
@@ -21,6 +18,9 @@ use sheet_rows::rule_a;
 use sheet_rows::rule_b;
 use sheet_rows::rule_kind;
 use sheet_rows::rule_value;
+use spacing::distance;
+use spacing::spare_by;
+use spacing::spare_without;
 
 // The widths of the two links of rule row j together.
 fn rule_widths(s: &[u8], rs: &[u8], j: usize) -> usize
@@ -70,7 +70,7 @@ pub fn spare_at(s: &[u8], j: usize, a: usize, b: usize, u: usize, v: usize) -> i
     }
     let fs = freq_part(s);
     let apart = distance(freq(fs, u), freq(fs, v)) as u32;
-    spare_free(apart)
+    spare_without(apart)
 }
 
 // What vertex u of link a and vertex v of another link b have to spare.

@@ -11,7 +11,8 @@ use Rattle.channels.specs.Channels.{channelsOk, onAir}
 use Rattle.sheet_rows.specs.Rows.{linkFirst, linkCount, freq}
 use Rattle.sheet.specs.Sheet.{kOf, qOf, freqPart, rulePart, pairPart}
 use Rattle.sheet.specs.Refusal.{causeNumber, passing, refusal}
-use Rattle.pair_test.specs.Pairs.{zeroOrMore, spare}
+use Rattle.spacing.specs.Spacing.{zeroOrMore}
+use Rattle.pair_test.specs.Pairs.{spare}
 use Rattle.rules.specs.Job.{Job}
 use Rattle.rules.specs.declared.CheckAnswer.{CheckAnswer}
 use Rattle.rules.specs.declared.CheckAnswer.the-variants.{No, Yes, Few, BadChannels, Refused}

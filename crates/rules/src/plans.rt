@@ -15,7 +15,6 @@ ghost use Rattle.rules.specs.Plans.{placeOf, cellsOf, clear, keepsSheet,
 ghost use Rattle.rules.specs.Asked.{Taken, inList, vertexIn, cellListed, cellsSpare, cellsKeep, cellKeeps};
 use channels::is_on_air;
 use pair_test::freq_part;
-use pair_test::is_allowed;
 use pair_test::seek_rule;
 use pair_test::spare;
 use pair_test::spare_at;
@@ -23,6 +22,7 @@ use sheet::links_of;
 use sheet_rows::freq;
 use sheet_rows::link_count;
 use sheet_rows::link_first;
+use spacing::is_allowed;
 
 // A cell as a number that compares with fields.
 fn wide(x: u32) -> usize

@@ -22,8 +22,10 @@ use Rattle.sheet.specs.declared.Reading.{Reading}
 use Rattle.sheet.specs.declared.Reading.the-variants.{Refused}
 use Rattle.sheet.proofs.Causes.{cause-some}
 use Rattle.sheet.proofs.Accepted.{accepted, refusal-most}
+use Rattle.spacing.specs.Spacing.{inRange}
 use Rattle.pair_test.proofs.Laws.{parts-of}
-use Rattle.pair_test.proofs.Pairing.{spare-fits}
+use Rattle.spacing.proofs.Spacing.{range-fits}
+use Rattle.pair_test.proofs.Pairing.{spare-range}
 use Rattle.rules.specs.Job.{Job}
 use Rattle.rules.specs.Plans.{hasFreq, inLists, spareTaken, cellsOf, checked}
 use Rattle.rules.specs.Asked.{Taken, cellListed, cellsSpare}
@@ -96,13 +98,17 @@ at-two s cells i h e = rw (lt-ltb i (kOf s * kOf s) h, ne-eqb (i / kOf s) (i % k
 pub row-lt : (k i : ℕ) → 0 < k → i < k * k → i / k < k
 row-lt k i o h = div-lt-iff-lt-mul o .1 h
 
--- what the cells of two links have to spare is an `i32`
+-- what the cells of two links have to spare is in the range of the pair test, so it is an `i32`
+pub cells-range : {s cells : List ℕ} {a b : ℕ} → Taken s cells → a < kOf s → b < kOf s
+    → inRange (cellsSpare s cells a b) ≡ true
+unfolding spareTaken
+cells-range {s} {cells} {a} {b} t x y =
+    spare-range (parts-of s (t .accepted)) a b _ _ x y (vertex-in _ _ _ _ (cell-taken t x .listed))
+    (vertex-in _ _ _ _ (cell-taken t y .listed))
+
 pub cells-fit : {s cells : List ℕ} {a b : ℕ} → Taken s cells → a < kOf s → b < kOf s
     → SFits w32 (cellsSpare s cells a b)
-unfolding spareTaken
-cells-fit {s} {cells} {a} {b} t x y =
-    spare-fits (parts-of s (t .accepted)) a b _ _ x y (vertex-in _ _ _ _ (cell-taken t x .listed))
-    (vertex-in _ _ _ _ (cell-taken t y .listed))
+cells-fit {s} {cells} {a} {b} t x y = range-fits (cellsSpare s cells a b) (cells-range t x y)
 
 -- a table written place by place: up to place m it has f
 pub record TabledTo (f : ℕ → ℤ) (m : ℕ) (p₀ p : List ℤ) : Type 0 where

@@ -14,19 +14,16 @@ use Rattle.sets.proofs.Below.{all-in, all-out}
 use Rattle.channels.specs.Channels.{channelsOk}
 use Rattle.sheet.specs.Sheet.{kOf, qOf, freqPart, rulePart, pairPart}
 use Rattle.sheet.proofs.Accepted.{accepted}
-use Rattle.pair_test.specs.Pairs.{zeroOrMore}
-use Rattle.pair_test.specs.Range.{inRange}
-use Rattle.pair_test.proofs.Laws.{parts-of}
-use Rattle.pair_test.proofs.Numbers.{sub-range}
-use Rattle.pair_test.proofs.Pairing.{spare-turned, spare-range}
+use Rattle.spacing.specs.Spacing.{zeroOrMore, inRange}
+use Rattle.spacing.proofs.Spacing.{sub-range}
+use Rattle.pair_test.proofs.Pairing.{spare-turned}
 use Rattle.rules.specs.Job.{Job}
 use Rattle.rules.specs.Plans.{spareTaken, pairKept, linkKept, keeps, keepsSheet, keepsJob, cellsOf, yesNo, checked}
 use Rattle.rules.specs.Asked.{Taken, cellListed, cellsSpare}
-use Rattle.rules.proofs.Laws.{cell-taken, vertex-in}
 use Rattle.spares.specs.Table.{spareOf}
 use Rattle.spares.specs.Spares.{answerFor, judged, shown}
 use Rattle.spares.specs.Tells.{NoClash, SparesTell}
-use Rattle.spares.proofs.Laws.{judged-not, judged-checked, shown-judged}
+use Rattle.spares.proofs.Laws.{cells-range, judged-not, judged-checked, shown-judged}
 
 module _ (job : Job) (cells : List ℕ) (room : ℕ) where
   abbrev s : List ℕ
@@ -107,18 +104,11 @@ module _ (job : Job) (cells : List ℕ) (room : ℕ) where
         listed = and-r (judged (answerFor job cells room)) _ h;
       }
 
-  two-range : shown job cells room ≡ true → (a b : ℕ) → a < k → b < k → inRange (cellsSpare s cells a b) ≡ true
-  unfolding spareTaken
-  two-range h a b x y =
-      let t = taken h in
-      spare-range (parts-of s (t .accepted)) a b _ _ x y (vertex-in _ _ _ _ (cell-taken t x .listed))
-      (vertex-in _ _ _ _ (cell-taken t y .listed))
-
   of-range : shown job cells room ≡ true → (a b : ℕ) → a < k → b < k → inRange (spareOf s cells a b) ≡ true
   unfolding spareOf
   of-range h a b x y = bool (eqb a b)
       (λ e. rw e (sub-range 0 0 (omega arith) (omega arith)))
-      (λ e. rw e (two-range h a b x y))
+      (λ e. rw e (cells-range (taken h) x y))
 
   pub spares-tell : SparesTell job cells room
   unfolding shown keepsJob keepsSheet keeps

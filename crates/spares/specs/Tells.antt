@@ -5,8 +5,7 @@ use mathlib.Core.Bool.{true}
 use mathlib.Core.List.{List}
 use Rattle.sets.specs.Below.{all}
 use Rattle.sheet.specs.Sheet.{kOf}
-use Rattle.pair_test.specs.Pairs.{zeroOrMore}
-use Rattle.pair_test.specs.Range.{inRange}
+use Rattle.spacing.specs.Spacing.{zeroOrMore, inRange}
 use Rattle.rules.specs.Job.{Job}
 use Rattle.rules.specs.Plans.{cellsOf, clear}
 use Rattle.spares.specs.Table.{spareOf}

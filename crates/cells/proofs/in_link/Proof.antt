@@ -1,5 +1,4 @@
 -- `cells::in_link` meets its contract, by the test of a vertex's link.
-use borrow.Author.Needs.{needs}
 use denote.Ref.{now}
 use native.Mathlib.Omega.{arith}
 use Rattle.pair_test.proofs.Laws.{link-there}

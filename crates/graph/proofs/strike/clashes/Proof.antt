@@ -3,8 +3,8 @@ use borrow.Author.Needs.{needs}
 use mathlib.Core.Path.{ap, _∙_}
 use mathlib.Core.Bool.{not}
 use native.Mathlib.Omega.{arith}
-use Rattle.pair_test.specs.Pairs.{distance, zeroOrMore}
-use Rattle.pair_test.proofs.Numbers.{read-back}
+use Rattle.spacing.specs.Spacing.{distance, zeroOrMore}
+use Rattle.spacing.proofs.Spacing.{read-back}
 use Rattle.graph.specs.Strikes.{clashing}
 use Rattle.graph.proofs.strike.clashes.Statement.{statement}
 use Rattle.graph.proofs.strike.clashes.Tie as tie

@@ -1,7 +1,7 @@
 -- The lower of the two links comes first; turned round, the test is the same.
 use mathlib.Core.Path.{sym, _∙_}
 use native.Mathlib.Omega.{arith}
-use Rattle.pair_test.proofs.Numbers.{read-back}
+use Rattle.spacing.proofs.Spacing.{read-back}
 use Rattle.pair_test.proofs.Pairing.{spare-turned}
 use Rattle.pair_test.proofs.pairs.spare.Statement.{statement}
 use Rattle.pair_test.proofs.pairs.spare.Tie as tie

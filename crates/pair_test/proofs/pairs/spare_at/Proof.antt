@@ -7,9 +7,10 @@ use native.Mathlib.Omega.{arith}
 use borrow.Author.Tests.{ltb-true, lt-ltb}
 use Rattle.sets.proofs.Tests.{and-l, and-r, is-false, and-in, clash}
 use Rattle.sheet.specs.Sheet.{freqPart}
-use Rattle.pair_test.specs.Pairs.{distance, spareFree}
+use Rattle.spacing.specs.Spacing.{distance}
+use Rattle.pair_test.specs.Pairs.{spareFree}
 use Rattle.pair_test.proofs.Laws.{parts-of, freq-there}
-use Rattle.pair_test.proofs.Numbers.{read-back}
+use Rattle.spacing.proofs.Spacing.{read-back}
 use Rattle.pair_test.proofs.Pairing.{of-out, spare-rule, spare-none}
 use Rattle.pair_test.proofs.pairs.spare_at.Statement.{statement}
 use Rattle.pair_test.proofs.pairs.spare_at.Tie as tie
@@ -65,15 +66,15 @@ returns-2 c =
     let a = x .args in
     let n = sym (c .before .before .before .before .before .before .is-of .ensures)
     ∙ c .before .before .before .before .before .if1 .left in
-    let e : c .spare-free .result ≡ spareFree (freqPart (now (a .s))) (a .u) (a .v) =
+    let e : c .spare-without .result ≡ spareFree (freqPart (now (a .s))) (a .u) (a .v) =
     rw (
       ← c .before .before .before .before .freq-part .ensures,
       ← c .before .before .before .freq .ensures .0,
       ← c .before .before .freq2 .ensures .0,
       ← c .before .distance .ensures,
     )
-    (c .spare-free .ensures) in
-    read-back (c .spare-free .ok) (e ∙ spare-none (parts-of _ (h .accepted)) (h .sought) (h .order) (a .u) (a .v)
+    (c .spare-without .ensures) in
+    read-back (c .spare-without .ok) (e ∙ spare-none (parts-of _ (h .accepted)) (h .sought) (h .order) (a .u) (a .v)
     (λ l. is-false _ (λ t. clash _ (and-in (lt-ltb (a .j) _ l) t) n)))
 
 pub spare-at-spec : {M : Type 1} → statement M

@@ -2,9 +2,10 @@
 use borrow.Author.Needs.{needs}
 use mathlib.Core.Path.{_∙_}
 use native.Mathlib.Omega.{arith}
-use Rattle.pair_test.specs.Pairs.{distance, spareRow}
+use Rattle.spacing.specs.Spacing.{distance}
+use Rattle.pair_test.specs.Pairs.{spareRow}
 use Rattle.pair_test.proofs.Laws.{parts-of, row-bounds, widths-small}
-use Rattle.pair_test.proofs.Numbers.{read-back, by-listed, by-plain}
+use Rattle.spacing.proofs.Spacing.{read-back, by-listed, by-plain}
 use Rattle.pair_test.proofs.pairs.spare_of_row.Statement.{statement}
 use Rattle.pair_test.proofs.pairs.spare_of_row.Tie as tie
 

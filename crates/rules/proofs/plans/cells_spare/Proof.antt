@@ -1,6 +1,6 @@
 -- `rules::plans::cells_spare` meets its contract.
 use borrow.Author.Needs.{needs}
-use Rattle.pair_test.proofs.Numbers.{read-back}
+use Rattle.spacing.proofs.Spacing.{read-back}
 use Rattle.rules.specs.Plans.{spareTaken}
 use Rattle.rules.proofs.plans.cells_spare.Statement.{statement}
 use Rattle.rules.proofs.plans.cells_spare.Tie as tie

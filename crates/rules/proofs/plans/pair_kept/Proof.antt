@@ -2,8 +2,8 @@
 use borrow.Author.Needs.{needs}
 use mathlib.Core.Path.{ap, _∙_}
 use native.Mathlib.Omega.{arith}
-use Rattle.pair_test.specs.Pairs.{zeroOrMore}
-use Rattle.pair_test.proofs.Numbers.{read-back}
+use Rattle.spacing.specs.Spacing.{zeroOrMore}
+use Rattle.spacing.proofs.Spacing.{read-back}
 use Rattle.rules.specs.Plans.{spareTaken, pairKept}
 use Rattle.rules.proofs.plans.pair_kept.Statement.{statement}
 use Rattle.rules.proofs.plans.pair_kept.Tie as tie

@@ -7,7 +7,7 @@ use lib.IntN.{ℤ}
 use mir.Syntax.{w32, w64}
 use mir.Val.{SFits, toZ, ofZ}
 use mir.ValLaws.{toZ-ofZ}
-use Rattle.pair_test.proofs.Numbers.{read-back}
+use Rattle.spacing.proofs.Spacing.{read-back}
 use Rattle.spares.proofs.Laws.{few-places, row-lt, cells-fit, at-past, at-same, at-two}
 use Rattle.spares.proofs.table.place_spare.Statement.{statement}
 use Rattle.spares.proofs.table.place_spare.Tie as tie

@@ -2,7 +2,6 @@
 -- at.
 use Prim.Native.Nat.{ℕ, zero, suc, _+_, _-_, _*_, _^_, _≤_, _<_}
 use mathlib.Core.Path.{_≡_, refl, sym, ap, ap₂, _∙_}
-use mathlib.Core.List.{List}
 use mathlib.Core.Bool.{Bool, true, false, not, cond, _&&_}
 use native.Mathlib.Omega.{arith}
 use lib.Dec.{eqb, ltb, leb}
@@ -13,9 +12,7 @@ use mir.Val.{SFits, hbits, toZ, ofZ}
 use mir.ValLaws.{toZ-pos, toZ-ofZ}
 use borrow.Author.Tests.{eqb-true, eqb-false, ltb-true, ltb-false, leb-true, ne-eqb, lt-ltb, le-ltb, le-leb, lt-leb}
 use Rattle.sets.proofs.Tests.{bool, iff, and-l, and-in}
-use Rattle.sheet_rows.specs.Rows.{freq}
-use Rattle.pair_test.specs.Pairs.{distance, zeroOrMore, spareBy, spareFree}
-use Rattle.pair_test.specs.Range.{inRange}
+use Rattle.spacing.specs.Spacing.{distance, zeroOrMore, spareBy, spareWithout, inRange}
 
 -- a − b by the order of the two
 sub-below : (a b : ℕ) → a < b → subℕ a b ≡ negsuc (b - suc a)
@@ -127,13 +124,9 @@ apart-some x y = bool (eqb x y)
     (λ e. let q = eqb-true x y e in rw e (lt-leb 1 (2 * distance x y) (omega arith)))
     (λ e. let q = eqb-false x y e in rw e (le-leb 1 (2 * distance x y) (omega (arith, q))))
 
-pub free-allowed : (fs : List ℕ) (u v : ℕ) → zeroOrMore (spareFree fs u v) ≡ not (eqb (freq fs u) (freq fs v))
-unfolding spareFree
-free-allowed fs u v = sub-allowed (2 * distance (freq fs u) (freq fs v)) 1 ∙ apart-some (freq fs u) (freq fs v)
-
-pub free-turned : (fs : List ℕ) (u v : ℕ) → spareFree fs u v ≡ spareFree fs v u
-unfolding spareFree
-free-turned fs u v = rw (distance-turned (freq fs u) (freq fs v))
+pub without-allowed : (x y : ℕ) → zeroOrMore (spareWithout (distance x y)) ≡ not (eqb x y)
+unfolding spareWithout
+without-allowed x y = sub-allowed (2 * distance x y) 1 ∙ apart-some x y
 
 -- the range
 

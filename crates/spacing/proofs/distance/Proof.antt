@@ -1,9 +1,9 @@
--- `pair_test::spacing::distance` meets its contract.
+-- `spacing::distance` meets its contract.
 use borrow.Author.Needs.{needs}
 use native.Mathlib.Omega.{arith}
-use Rattle.pair_test.specs.Pairs.{distance}
-use Rattle.pair_test.proofs.spacing.distance.Statement.{statement}
-use Rattle.pair_test.proofs.spacing.distance.Tie as tie
+use Rattle.spacing.specs.Spacing.{distance}
+use Rattle.spacing.proofs.distance.Statement.{statement}
+use Rattle.spacing.proofs.distance.Tie as tie
 
 returns : tie.Need-returns
 unfolding distance

@@ -4,10 +4,10 @@ use Prim.Native.Nat.{ℕ, _*_}
 use mathlib.Core.Path.{ap, _∙_}
 use lib.IntN.{subℕ}
 use native.Mathlib.Omega.{arith}
-use Rattle.pair_test.specs.Pairs.{distance}
-use Rattle.pair_test.proofs.Numbers.{read-back, by-one, by-two, by-list}
-use Rattle.pair_test.proofs.spacing.spare_by.Statement.{statement}
-use Rattle.pair_test.proofs.spacing.spare_by.Tie as tie
+use Rattle.spacing.specs.Spacing.{distance}
+use Rattle.spacing.proofs.Spacing.{read-back, by-one, by-two, by-list}
+use Rattle.spacing.proofs.spare_by.Statement.{statement}
+use Rattle.spacing.proofs.spare_by.Tie as tie
 
 returns : tie.Need-returns
 returns c = read-back (c .minus .ok) (c .minus .ensures ∙ by-one _ _ _ _ _ (c .before .if1 .taken))

@@ -4,9 +4,9 @@ use lib.IntN.{ℤ, subℕ}
 use mir.Syntax.{w64}
 use mir.Val.{SFits, toZ, ofZ}
 use mir.ValLaws.{toZ-ofZ}
-use Rattle.pair_test.proofs.Numbers.{sub-fits, read-minus}
-use Rattle.pair_test.proofs.spacing.minus.Statement.{statement}
-use Rattle.pair_test.proofs.spacing.minus.Tie as tie
+use Rattle.spacing.proofs.Spacing.{sub-fits, read-minus}
+use Rattle.spacing.proofs.minus.Statement.{statement}
+use Rattle.spacing.proofs.minus.Tie as tie
 
 -- the difference fits
 holds : (c : tie.Start) → SFits w64 (subℕ (c .args .there) (c .args .asked))

@@ -1,8 +1,9 @@
-// Spacing to spare: a signed number of half kHz.
+// Spacing to spare, a signed number of half kHz: of a rule's numbers and without a rule. The contracts cite
+// specs/Spacing.antt.
 ghost use mathlib.Core.Path.{_≡_};
-ghost use Prim.Native.Nat.{_*_, _^_, _<_};
+ghost use Prim.Native.Nat.{_^_, _<_};
 ghost use lib.IntN.{subℕ};
-ghost use Rattle.pair_test.specs.Pairs.{distance as distanceOf, zeroOrMore, spareBy};
+ghost use Rattle.spacing.specs.Spacing.{distance as distanceOf, zeroOrMore, spareBy, spareWithout};
 
 // How far x and y differ.
 pub fn distance(x: usize, y: usize) -> usize
@@ -27,8 +28,8 @@ pub fn is_allowed(spare: i64) -> bool
 }
 
 // What frequencies so far apart have to spare without a rule.
-pub fn spare_free(apart: u32) -> i64
-    ensures { λ r. ⌜ r ≡ subℕ (2 * apart) 1 ⌝ }
+pub fn spare_without(apart: u32) -> i64
+    ensures { λ r. ⌜ r ≡ spareWithout apart ⌝ }
 {
     minus(2 * (apart as u64), 1)
 }
