@@ -1,0 +1,5 @@
+pub mod Links
+pub mod FewPairs
+pub mod Full
+pub mod Sizes
+pub mod Heaviest

@@ -1,0 +1,5 @@
+pub mod Counts
+pub mod AtMost
+pub mod Takes
+pub mod FullTree
+pub mod TreeSizes
