@@ -11,7 +11,10 @@ use Rattle.graph_export.specs.declared.ExportAnswer.{ExportAnswer}
 use Rattle.graph_export.specs.declared.Exported.{Exported}
 use Rattle.graph_import.specs.Gives.{importNumber, ImportGives}
 use Rattle.graph_import.specs.declared.Imported.{Imported}
-use Rattle.desk.specs.Desk.{exportWord, ExportHanded, importWord, ImportHanded}
+use Rattle.heaviest_sheet.specs.Call.{HeaviestOutcome}
+use Rattle.heaviest.specs.Gives.{heaviestNumber, HeaviestGives}
+use Rattle.heaviest.specs.declared.HeaviestSheet.{HeaviestSheet}
+use Rattle.desk.specs.Desk.{exportWord, ExportHanded, sheetWord, ImportHanded, HeaviestHanded}
 
 pub export-few : (a : ExportAnswer) → exportNumber a ≤ 16
 export-few ExportAnswer.Written = omega arith
@@ -27,7 +30,11 @@ export-handed G q = record {
   counts = G .counts;
 }
 
-pub import-handed : {o : ImportOutcome} {i : Imported} {r : ℕ} {s : List ℕ} → ImportGives o i s
-    → r ≡ i .length + 2 ^ 32 * importNumber (i .answer) → ImportHanded o r s
-unfolding importWord
-import-handed G q = record { number = q ∙ rw (G .length, G .answer) refl; sheet = G .sheet }
+-- a call that writes a sheet: what it gives and what is handed back
+pub import-handed : {o : ImportOutcome} {i : Imported} {n r : ℕ} {s : List ℕ} → ImportGives o i s
+    → n ≡ importNumber (i .answer) → r ≡ sheetWord (i .length) n → ImportHanded o r s
+import-handed G e q = record { number = q ∙ rw (e, G .length, G .answer) refl; sheet = G .sheet }
+
+pub heaviest-handed : {o : HeaviestOutcome} {h : HeaviestSheet} {n r : ℕ} {s : List ℕ} → HeaviestGives o h s
+    → n ≡ heaviestNumber (h .answer) → r ≡ sheetWord (h .length) n → HeaviestHanded o r s
+heaviest-handed G e q = record { number = q ∙ rw (e, G .length, G .answer) refl; sheet = G .bytes }

@@ -7,19 +7,21 @@ ghost use lib.ListN.{length};
 ghost use Rattle.dimacs.specs.Export.{exported};
 ghost use Rattle.dimacs.specs.Import.{imported};
 ghost use Rattle.graph_export.specs.Gives.{exportNumber, mostGraph, mostCounts};
-ghost use Rattle.graph_import.specs.Gives.{importNumber, mostSheet};
+ghost use Rattle.graph_import.specs.Gives.{mostSheet};
+ghost use Rattle.heaviest_sheet.specs.Call.{heaviestOf};
 ghost use Rattle.rules.specs.Job.{jobWith};
 ghost use Rattle.byte_calls.specs.ByteCalls.{outcomeIn, cellsIn, checkedIn, Handed};
 ghost use Rattle.spares_bytes.specs.SparesBytes.{SparesHanded};
-ghost use Rattle.desk.specs.Desk.{ExportHanded, ImportHanded};
+ghost use Rattle.desk.specs.Desk.{ExportHanded, sheetWord, ImportHanded, HeaviestHanded};
 use byte_calls::check_bytes;
 use byte_calls::plan_bytes;
 use graph_export::Exported;
 use graph_export::export;
 use graph_export::export_number;
-use graph_import::Imported;
 use graph_import::import;
 use graph_import::import_number;
+use heaviest::heaviest;
+use heaviest::heaviest_number;
 use setting::Options;
 use spares_bytes::spares_bytes;
 
@@ -42,14 +44,12 @@ pub extern "C" fn guvtemi_export(sheet: &[u8], graph: &mut [u8], counts: &mut [u
     exported_number(export(sheet, graph, counts))
 }
 
-// The number of an import: the length and the cause.
-fn imported_number(i: Imported) -> u64
-    requires { ⌜ i .length ≤ mostSheet ⌝ }
-    ensures { λ r. ⌜ r ≡ i .length + 2 ^ 32 * importNumber (i .answer) ⌝ }
+// The number of a call that writes a sheet: its length and the cause.
+fn sheet_number(length: usize, cause: u32) -> u64
+    requires { ⌜ length ≤ mostSheet ⌝ }
+    ensures { λ r. ⌜ r ≡ sheetWord length cause ⌝ }
 {
-    let answer = i.answer;
-    let cause = import_number(answer) as u64;
-    i.length as u64 + 4294967296 * cause
+    length as u64 + 4294967296 * (cause as u64)
 }
 
 // Writes the sheet of a graph text and a count text.
@@ -58,7 +58,9 @@ pub extern "C" fn guvtemi_import(graph: &[u8], counts: &[u8], sheet: &mut [u8]) 
     ensures { λ r. ⌜ ImportHanded (imported (now (graph .entry)) (now (counts .entry)) (length (now (sheet .entry))))
         r (now (sheet .exit)) ⌝ }
 {
-    imported_number(import(graph, counts, sheet))
+    let i = import(graph, counts, sheet);
+    let answer = i.answer;
+    sheet_number(i.length, import_number(answer))
 }
 
 // Plans a job: a sheet and the channels on air. The work words are the call's own.
@@ -105,4 +107,14 @@ pub extern "C" fn guvtemi_spares(
         (length (now (table .entry))) r (now (table .exit)) ⌝ }
 {
     spares_bytes(sheet, channels, cells, table)
+}
+
+// Writes the heaviest job of k links with m frequencies each.
+#[no_mangle]
+pub extern "C" fn guvtemi_heaviest(k: u32, m: u32, buffer: &mut [u8]) -> u64
+    ensures { λ r. ⌜ HeaviestHanded (heaviestOf k m (length (now (buffer .entry)))) r (now (buffer .exit)) ⌝ }
+{
+    let h = heaviest(k, m, buffer);
+    let answer = h.answer;
+    sheet_number(h.length, heaviest_number(answer))
 }

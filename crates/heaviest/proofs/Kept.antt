@@ -15,7 +15,7 @@ use Rattle.sets.proofs.Tests.{bool, and-l, and-r, and-false}
 use Rattle.sets.proofs.Lists.{length-tabulate, tab-none, tab-more}
 use Rattle.dimacs.specs.Made.{joined}
 use Rattle.dimacs.proofs.Codes.{code-lt, first-lt, second-lt}
-use Rattle.heaviest_sheet.specs.Written.{links, isLast, isEdge, edges, graph}
+use Rattle.heaviest_sheet.specs.Written.{links, isLast, meets, isEdge, edges, graph}
 use Rattle.heaviest_sheet.specs.Call.{SizesFit}
 use Rattle.heaviest.specs.Words.{upTo}
 
@@ -46,21 +46,21 @@ module _ (m u v : ℕ) where
 
     module _ (up : u / m < v / m) where
       pub edge-early : v / m + 1 < k → true ≡ isEdge k m u v
-      unfolding isEdge
+      unfolding isEdge meets
       edge-early h = rw (lt-ltb (u / m) (v / m) up, lt-ltb (v / m + 1) k h) refl
 
       module _ {b : Bool} (late : k ≤ v / m + 1) (e : b ≡ (isLast m u && isLast m v)) where
         pub edge-last : b ≡ true → true ≡ isEdge k m u v
-        unfolding isEdge
+        unfolding isEdge meets
         edge-last t = rw (lt-ltb (u / m) (v / m) up, le-ltb (v / m + 1) k late, sym e, t) refl
 
         pub edge-next : b ≡ false → k ≤ u / m + 2 → false ≡ isEdge k m u v
-        unfolding isEdge
+        unfolding isEdge meets
         edge-next f h =
             rw (lt-ltb (u / m) (v / m) up, le-ltb (v / m + 1) k late, sym e, f, le-ltb (u / m + 2) k h) refl
 
         pub edge-first : b ≡ false → u / m + 2 < k → eqb (v % m) 0 ≡ isEdge k m u v
-        unfolding isEdge
+        unfolding isEdge meets
         edge-first f h =
             rw (lt-ltb (u / m) (v / m) up, le-ltb (v / m + 1) k late, sym e, f, lt-ltb (u / m + 2) k h) refl
 

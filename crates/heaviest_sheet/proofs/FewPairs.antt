@@ -21,7 +21,7 @@ use Rattle.dimacs.proofs.Lists.{select-length}
 use Rattle.dimacs.proofs.Codes.{code-first, code-second, code-back, code-lt, first-lt, second-lt}
 use Rattle.dimacs.proofs.Accepts.{Ruled, rule-count, ruled-is}
 use Rattle.tree_size.proofs.Counts.{count-within, count-just}
-use Rattle.heaviest_sheet.specs.Written.{links, isLast, graph}
+use Rattle.heaviest_sheet.specs.Written.{links, isLast, meets, graph}
 use Rattle.heaviest_sheet.specs.Call.{SizesFit}
 use Rattle.heaviest_sheet.proofs.Links.{links-length, links-count, links-first, links-small, graph-is}
 
@@ -70,9 +70,8 @@ module _ (k m : ℕ) (Z : SizesFit k m) where
         select-length (countOf cs a * countOf cs b) (isPair cs adj a b)
         ∙ ap (λ i. count i (isPair cs adj a b)) square
 
-    pair-is : (x y : ℕ) → x < m → y < m → isPair cs adj a b (x * m + y)
-        ≡ (ltb (b + 1) k || ((eqb (x + 1) m && eqb (y + 1) m) || (ltb (a + 2) k && eqb y 0)))
-    unfolding isPair isLast
+    pair-is : (x y : ℕ) → x < m → y < m → isPair cs adj a b (x * m + y) ≡ meets k m (a * m + x) (b * m + y)
+    unfolding isPair
     pair-is x y h g =
         rw (
           links-count k m b lt,
@@ -80,19 +79,15 @@ module _ (k m : ℕ) (Z : SizesFit k m) where
           links-first k m b (omega arith),
           code-first m x y g,
           code-second m x y g,
-          graph-is k m Z (a * m + x) (b * m + y) (code-lt k m a x (omega arith) h) (code-lt k m b y lt g) later,
-          code-first m a x h,
-          code-first m b y g,
-          code-second m a x h,
-          code-second m b y g,
         )
+        (graph-is k m Z (a * m + x) (b * m + y) (code-lt k m a x (omega arith) h) (code-lt k m b y lt g) later)
       where
         later : (a * m + x) / m < (b * m + y) / m
         later = rw (code-first m a x h, code-first m b y g) up
 
     -- links before the last are joined by all pairs
     all-joined : b + 1 < k → isFull cs adj a b ≡ true
-    unfolding isFull
+    unfolding isFull meets
     all-joined h = eq-eqb _ _ (pairs-count
         ∙ count-just (m * m) 0 (m * m) (isPair cs adj a b) (omega arith) (λ z l t. (omega arith, omega arith)) every
         ∙ sym square)
@@ -102,20 +97,23 @@ module _ (k m : ℕ) (Z : SizesFit k m) where
             let x = first-lt m m z (omega arith) in
             let y = second-lt m m z (omega arith) in
             let q : isPair cs adj a b (z / m * m + z % m) ≡ true =
-            pair-is (z / m) (z % m) x y ∙ rw (lt-ltb (b + 1) k h) refl in
+            pair-is (z / m) (z % m) x y ∙ rw (code-first m b (z % m) y, lt-ltb (b + 1) k h) refl in
             rw (code-back m z) at q
 
     -- a pair with the last link has its first or its last vertex
     pair-ends : b + 1 ≡ k → (x y : ℕ) → x < m → y < m → isPair cs adj a b (x * m + y) ≡ true → (y ≡ 0) ⊎ (y + 1 ≡ m)
+    unfolding meets isLast
     pair-ends e x y h g t =
         let last = le-ltb (b + 1) k (omega arith) in
-        ends (or-case (eqb (x + 1) m && eqb (y + 1) m) (ltb (a + 2) k && eqb y 0)
-        (sym (pair-is x y h g ∙ rw last refl) ∙ t))
+        let u = isLast m (a * m + x) in
+        let first = ltb ((a * m + x) / m + 2) k in
+        ends u first (or-case (u && eqb (y + 1) m) (first && eqb y 0)
+        (sym (pair-is x y h g ∙ rw (code-first m b y g, code-second m b y g, last) refl) ∙ t))
       where
-        ends : ((eqb (x + 1) m && eqb (y + 1) m) ≡ true) ⊎ ((ltb (a + 2) k && eqb y 0) ≡ true)
+        ends : (u first : Bool) → ((u && eqb (y + 1) m) ≡ true) ⊎ ((first && eqb y 0) ≡ true)
             → (y ≡ 0) ⊎ (y + 1 ≡ m)
-        ends (inl q) = inr (eqb-true (y + 1) m (and-r (eqb (x + 1) m) (eqb (y + 1) m) q))
-        ends (inr q) = inl (eqb-true y 0 (and-r (ltb (a + 2) k) (eqb y 0) q))
+        ends u first (inl q) = inr (eqb-true (y + 1) m (and-r u (eqb (y + 1) m) q))
+        ends u first (inr q) = inl (eqb-true y 0 (and-r first (eqb y 0) q))
 
     few-joined : b + 1 ≡ k → length (pairsOf cs adj a b) ≤ m * 2
     few-joined e =

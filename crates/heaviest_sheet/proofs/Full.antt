@@ -10,7 +10,7 @@ use Rattle.sets.proofs.Tests.{bool, and-false, iff}
 use Rattle.cliques.specs.Graph.{Graph}
 use Rattle.dimacs.proofs.Codes.{code-second, code-back, first-lt, second-lt}
 use Rattle.tree_size.specs.FullGraph.{FullGraph}
-use Rattle.heaviest_sheet.specs.Written.{isLast, graph}
+use Rattle.heaviest_sheet.specs.Written.{isLast, meets, graph}
 use Rattle.heaviest_sheet.specs.Call.{SizesFit}
 use Rattle.heaviest_sheet.proofs.Links.{link-is, graph-is}
 
@@ -48,19 +48,17 @@ module _ (z m : ℕ) (Z : SizesFit (suc z) m) where
   x-last = let p = Z .m-some in
       last-is x (omega arith) ∙ rw x-link (eq-eqb (suc x) (z * m + m) (omega arith))
 
-  -- u of an earlier link and a vertex v of the last link
-  module _ (u v : ℕ) (a : u < n) (b : v < n) (early : u / m < z) (e : v / m ≡ z) where
-    late : graph (suc z) m u v ≡ ((isLast m u && isLast m v) || (ltb (u / m + 2) (suc z) && eqb (v % m) 0))
-    late = graph-is (suc z) m Z u v a b (omega arith) ∙ rw (e, le-ltb (z + 1) (suc z) (omega arith)) refl
-
   early-joined : (u v : ℕ) → u < n → v < n → u / m < v / m → v / m < z → graph (suc z) m u v ≡ true
+  unfolding meets
   early-joined u v a b h g = graph-is (suc z) m Z u v a b h ∙ rw (lt-ltb (v / m + 1) (suc z) (omega arith)) refl
 
   -- a link of more than one vertex does not begin with its last
   x-joined : (u : ℕ) → u < n → u / m < z → graph (suc z) m u x ≡ eqb (suc u) (u / m * m + m)
+  unfolding meets
   x-joined u a h =
       let p = Z .m-some in
-      late u x a (omega arith) h x-link ∙ rw x-last (go (isLast m u) (last-is u a))
+      graph-is (suc z) m Z u x a (omega arith) (omega (arith, x-link))
+      ∙ rw (x-link, le-ltb (z + 1) (suc z) (omega arith), x-last) (go (isLast m u) (last-is u a))
     where
       go : (l : Bool) → l ≡ eqb (suc u) (u / m * m + m)
           → ((l && true) || (ltb (u / m + 2) (suc z) && eqb (x % m) 0)) ≡ eqb (suc u) (u / m * m + m)
@@ -74,23 +72,27 @@ module _ (z m : ℕ) (Z : SizesFit (suc z) m) where
           and-false (ltb (u / m + 2) (suc z)) (eqb (x % m) 0) (ne-eqb (x % m) 0 (λ i. omega arith)) ∙ e
 
   first-joined : (u : ℕ) → u < n → suc (u / m) < z → graph (suc z) m u (z * m) ≡ true
+  unfolding meets
   first-joined u a h =
       let p = Z .m-some in
       let e = link-is m z (z * m) (omega arith) (omega arith) in
       let y : z * m % m ≡ 0 = ap (λ i. i % m) (omega arith) ∙ code-second m z 0 (omega arith) in
-      late u (z * m) a (omega arith) (omega arith) e
-      ∙ rw (y, lt-ltb (u / m + 2) (suc z) (omega arith)) (or-true (isLast m u && isLast m (z * m)))
+      graph-is (suc z) m Z u (z * m) a (omega arith) (omega arith)
+      ∙ rw (e, le-ltb (z + 1) (suc z) (omega arith), y, lt-ltb (u / m + 2) (suc z) (omega arith))
+      (or-true (isLast m u && isLast m (z * m)))
     where
       or-true : (b : Bool) → (b || true) ≡ true
       or-true true = refl
       or-true false = refl
 
   other-parted : (u v : ℕ) → u < n → v < n → suc (u / m) ≡ z → v / m ≡ z → (v ≡ x → ⊥) → graph (suc z) m u v ≡ false
+  unfolding meets
   other-parted u v a b h e ne =
       let q : v / m * m ≡ z * m = ap (λ i. i * m) e in
       let l : isLast m v ≡ false = last-is v b ∙ ne-eqb (suc v) (v / m * m + m) (λ i. ne (omega arith)) in
-      late u v a b (omega arith) e
-      ∙ rw (l, le-ltb (u / m + 2) (suc z) (omega arith)) (ap (λ i. i || false) (and-false (isLast m u) false refl))
+      graph-is (suc z) m Z u v a b (omega arith)
+      ∙ rw (e, le-ltb (z + 1) (suc z) (omega arith), l, le-ltb (u / m + 2) (suc z) (omega arith))
+      (ap (λ i. i || false) (and-false (isLast m u) false refl))
 
   module _ (G : Graph) (ek : G .k ≡ suc z) (en : G .n ≡ n) (cl : (v : ℕ) → v < G .n → G .cls v ≡ v / m)
       (ea : (u v : ℕ) → G .adj u v ≡ graph (suc z) m u v) where

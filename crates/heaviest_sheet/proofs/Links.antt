@@ -18,7 +18,7 @@ use Rattle.dimacs.proofs.Accepts.{Small}
 use Rattle.dimacs.proofs.Fields.{sections}
 use Rattle.dimacs.proofs.Adjacent.{Joins, layer-has, has-graph}
 use Rattle.dimacs.proofs.Sound.{Apart, joined-joins}
-use Rattle.heaviest_sheet.specs.Written.{links, isLast, isEdge, edges, graph, sheet}
+use Rattle.heaviest_sheet.specs.Written.{links, meets, isEdge, edges, graph, sheet}
 use Rattle.heaviest_sheet.specs.Call.{SizesFit}
 
 -- the link of a vertex, by where it starts
@@ -90,9 +90,7 @@ module _ (k m : ℕ) where
     sheet-graph = has-graph (links k m) (graph k m) links-small graph-joins
 
     -- vertices of two links, the earlier one first
-    pub graph-is : (u v : ℕ) → u < k * m → v < k * m → u / m < v / m
-        → graph k m u v
-        ≡ (ltb (v / m + 1) k || ((isLast m u && isLast m v) || (ltb (u / m + 2) k && eqb (v % m) 0)))
+    pub graph-is : (u v : ℕ) → u < k * m → v < k * m → u / m < v / m → graph k m u v ≡ meets k m u v
     unfolding graph joined edges isEdge
     graph-is u v a b h =
         let n = k * m in

@@ -16,12 +16,13 @@ links k m = tabulate k (λ l. m)
 unfoldable pub isLast : ℕ → ℕ → Bool
 isLast m v = eqb (v % m + 1) m
 
--- u is of an earlier link than v, and they are adjacent: v's link is not the last one; or each is the last of its link;
--- or v is the first of the last link, and u's link is not the one before it
+-- u of an earlier link and v are adjacent: v's link is not the last one; or each is the last of its link; or v is the
+-- first of the last link, and u's link is not the one before it
+unfoldable pub meets : ℕ → ℕ → ℕ → ℕ → Bool
+meets k m u v = ltb (v / m + 1) k || ((isLast m u && isLast m v) || (ltb (u / m + 2) k && eqb (v % m) 0))
+
 unfoldable pub isEdge : ℕ → ℕ → ℕ → ℕ → Bool
-isEdge k m u v =
-    ltb (u / m) (v / m) &&
-    (ltb (v / m + 1) k || ((isLast m u && isLast m v) || (ltb (u / m + 2) k && eqb (v % m) 0)))
+isEdge k m u v = ltb (u / m) (v / m) && meets k m u v
 
 -- u and v of k * m vertices have the code u * (k * m) + v
 unfoldable pub edges : ℕ → ℕ → Set
