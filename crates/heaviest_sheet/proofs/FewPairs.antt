@@ -3,15 +3,14 @@
 use mathlib.Core.Path.{_≡_, refl, sym, ap, _∙_}
 use mathlib.Core.Bool.{Bool, true, false, not, _&&_, _||_}
 use mathlib.Core.List.{List}
-use mathlib.Core.Logic.{_⊎_, inl, inr}
 use Prim.Native.Nat.{ℕ, zero, suc, _+_, _-_, _*_, _/_, _%_, _≤_, _<_}
 use native.Mathlib.Omega.{arith}
 use native.Mathlib.Nat.{mul-le-mul-right, mod-lt}
 use lib.Dec.{ltb, eqb}
 use lib.ListN.{length}
-use borrow.Author.Tests.{lt-ltb, le-ltb, ltb-true, ltb-false, eq-eqb, eqb-true}
+use borrow.Author.Tests.{lt-ltb, le-ltb, ltb-true, ltb-false, eq-eqb, ne-eqb, eqb-true, eqb-false}
 use Rattle.sets.specs.Below.{count, sumTo}
-use Rattle.sets.proofs.Tests.{clash, bool, and-l, and-r, or-case, not-out}
+use Rattle.sets.proofs.Tests.{clash, bool, and-l, and-r, and-false, not-out}
 use Rattle.sets.proofs.Below.{count-add, one-mono}
 use Rattle.sheet.specs.Sheet.{mostPairs}
 use Rattle.dimacs.specs.Reading.{countOf, firstOf}
@@ -35,17 +34,18 @@ count-rows (suc l) w c p h =
     rw e (omega (arith, count-add (l * w) w p, h l (omega arith)))
 
 -- only the first and the last number pass
-count-ends : (m : ℕ) (p : ℕ → Bool) → ((y : ℕ) → y < m → p y ≡ true → (y ≡ 0) ⊎ (y + 1 ≡ m)) → count m p ≤ 2
+count-ends : (m : ℕ) (p : ℕ → Bool) → ((y : ℕ) → y < m → (y ≡ 0 → ⊥) → (y + 1 ≡ m → ⊥) → p y ≡ false) → count m p ≤ 2
 unfolding count
 count-ends zero p h = omega arith
 count-ends (suc m) p h =
-    let a = count-within m 0 1 p (λ y l t. only y l (h y (omega arith) t)) in
+    let a = count-within m 0 1 p (λ y l t. bool (eqb y 0)
+    (λ e. let q = eqb-true y 0 e in (omega arith, omega arith))
+    (λ e. clash (p y) t (h y (omega arith) (eqb-false y 0 e) (λ q. omega arith)))) in
     let b = one-mono (p m) true (λ _. refl) in
     omega (arith, a .0)
-  where
-    only : (y : ℕ) → y < m → (y ≡ 0) ⊎ (y + 1 ≡ suc m) → (0 ≤ y) × (y < 0 + 1)
-    only y l (inl e) = (omega arith, omega arith)
-    only y l (inr e) = absurd (omega arith)
+
+and-none : (b : Bool) → (b && false) ≡ false
+and-none b = and-false b false refl
 
 sum-most : (l c : ℕ) (f : ℕ → ℕ) → ((i : ℕ) → i < l → f i ≤ c) → sumTo l f ≤ l * c
 unfolding sumTo
@@ -101,24 +101,20 @@ module _ (k m : ℕ) (Z : SizesFit k m) where
             rw (code-back m z) at q
 
     -- a pair with the last link has its first or its last vertex
-    pair-ends : b + 1 ≡ k → (x y : ℕ) → x < m → y < m → isPair cs adj a b (x * m + y) ≡ true → (y ≡ 0) ⊎ (y + 1 ≡ m)
+    pair-none : b + 1 ≡ k → (x y : ℕ) → x < m → y < m → (y ≡ 0 → ⊥) → (y + 1 ≡ m → ⊥)
+        → isPair cs adj a b (x * m + y) ≡ false
     unfolding meets isLast
-    pair-ends e x y h g t =
-        let last = le-ltb (b + 1) k (omega arith) in
-        let u = isLast m (a * m + x) in
-        let first = ltb ((a * m + x) / m + 2) k in
-        ends u first (or-case (u && eqb (y + 1) m) (first && eqb y 0)
-        (sym (pair-is x y h g ∙ rw (code-first m b y g, code-second m b y g, last) refl) ∙ t))
-      where
-        ends : (u first : Bool) → ((u && eqb (y + 1) m) ≡ true) ⊎ ((first && eqb y 0) ≡ true)
-            → (y ≡ 0) ⊎ (y + 1 ≡ m)
-        ends u first (inl q) = inr (eqb-true (y + 1) m (and-r u (eqb (y + 1) m) q))
-        ends u first (inr q) = inl (eqb-true y 0 (and-r first (eqb y 0) q))
+    pair-none e x y h g first last =
+        let late = le-ltb (b + 1) k (omega arith) in
+        let not-first = ne-eqb y 0 first in
+        let not-last = ne-eqb (y + 1) m last in
+        pair-is x y h g
+        ∙ simp (code-first m b y g, code-second m b y g, late, not-first, not-last, and-none) refl
 
     few-joined : b + 1 ≡ k → length (pairsOf cs adj a b) ≤ m * 2
     few-joined e =
         let rows = count-rows m m 2 (isPair cs adj a b)
-        (λ x h. count-ends m (λ y. isPair cs adj a b (x * m + y)) (λ y g t. pair-ends e x y h g t)) in
+        (λ x h. count-ends m (λ y. isPair cs adj a b (x * m + y)) (λ y g. pair-none e x y h g)) in
         omega (arith, pairs-count)
 
   -- a rule is with the last link
