@@ -7,6 +7,8 @@ use report::item;
 use report::number;
 use report::text;
 use trial_beside::small_sheets;
+use trial_heaviest::HEAVIEST;
+use trial_heaviest::heaviest_row;
 use trial_parts::EQUALS;
 use trial_parts::first_bytes;
 use trial_parts::get;
@@ -36,6 +38,8 @@ use trial_parts::times;
 use trial_rows::row_on_sheet;
 
 // The words that begin the other rows without a job, by their first bytes.
+const HEAVY: usize = 104;
+
 const LISTS: usize = 108;
 
 const RANDOM: usize = 114;
@@ -96,7 +100,14 @@ fn print_calls(kept: &[usize]) {
     item(b"; calls of planning:", get(kept, CALLS));
     item(b", of the check:", get(kept, CHECKS));
     item(b", for the spares:", get(kept, SPARES));
+    print_heaviest(get(kept, HEAVIEST));
     text(b"\n");
+}
+
+fn print_heaviest(m: usize) {
+    if m != 0 {
+        item(b", for heaviest jobs:", m);
+    }
 }
 
 // A line that begins with `=`: its text, and the calls since the last such line.
@@ -107,6 +118,7 @@ fn print_line(words: &[u8], kept: &mut [usize]) {
     put(kept, CALLS, 0);
     put(kept, CHECKS, 0);
     put(kept, SPARES, 0);
+    put(kept, HEAVIEST, 0);
     put(kept, ROWS, 0);
 }
 
@@ -124,6 +136,9 @@ fn row(kept: &mut [usize], word: usize) -> bool {
     if word == LISTS {
         read_list(kept);
         return true;
+    }
+    if word == HEAVY {
+        return heaviest_row(kept);
     }
     if word == RANDOM {
         let m = next(kept);
