@@ -3,3 +3,4 @@ pub mod AtMost
 pub mod Takes
 pub mod FullTree
 pub mod TreeSizes
+pub mod Known

@@ -1,3 +1,4 @@
 pub mod Size
+pub mod Known
 pub mod FullGraph
 pub mod TreeSizes
