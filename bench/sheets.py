@@ -3,7 +3,8 @@
 import random
 from dataclasses import dataclass
 
-from jobsheet.binary import EXACT, LISTED, MOST_KHZ, SPACING, Rule, Sheet
+from jobsheet import desk
+from jobsheet.binary import EXACT, LISTED, MOST_KHZ, SPACING, Rule, Sheet, decode
 
 RASTER = 25  # kHz
 
@@ -57,6 +58,14 @@ def crowded(links, frequencies):
     return Sheet(lists, [Rule(a, b, SPACING, 400) for a in range(links) for b in range(a + 1, links)])
 
 
+def heaviest(links, frequencies):
+    """The heaviest job of so many links with so many frequencies each, as the proved call writes it."""
+    cause, data = desk.heaviest(links, frequencies)
+    if cause:
+        raise ValueError(f"{links} x {frequencies}: refused {cause}")
+    return decode(data)
+
+
 def document_example_1():
     """Document 000, Example 1."""
     pairs = {(0, 1): [(0, 0), (0, 1), (1, 2), (2, 2)], (0, 2): [(0, 0), (1, 1)], (0, 3): [(0, 0)],
@@ -83,7 +92,8 @@ def samples(quick=False):
         found += [Sample("tables near the edge", f"{links} × 8, seed {seed}", tables(seed, links, 8, density, allowed))
                   for seed in range(1, 1 + min(most, 2))]
     found += [Sample("no plan", f"{links} links, {links - 1} frequencies", crowded(links, links - 1)) for links in ((8,) if quick else (8, 9))]
-    return found
+    sizes = ((8, 6),) if quick else ((8, 6), (3, 170), (64, 8))
+    return found + [Sample("heaviest", f"{links} × {frequencies}", heaviest(links, frequencies)) for links, frequencies in sizes]
 
 
 def building_samples(quick=False):

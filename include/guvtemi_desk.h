@@ -1,6 +1,6 @@
 /* Guvtemi's calls for a planner's desk: a job planned and checked with the television channels on air, the spare spacing
-   of every two links of a plan, a sheet's graph as DIMACS text, and a sheet from such a text. Link with
-   target/staticlib/libdesk.a (written by `rt staticlib desk`; x86-64). The numbers of an answer and guvtemi_number,
+   of every two links of a plan, a sheet's graph as DIMACS text, a sheet from such a text, and the job that takes the most
+   nodes. Link with target/staticlib/libdesk.a (written by `rt staticlib desk`; x86-64). The numbers of an answer and guvtemi_number,
    guvtemi_nodes and guvtemi_khz are those of guvtemi.h, which this header includes; the two functions declared there are
    in libconsole.a.
 
@@ -32,11 +32,12 @@ extern "C" {
 /* Causes of these calls. 1 to 8 and 16 are the sheet's refusals, 9, 10 and 12 those of planning, 10 also of check and
    spares: README.md lists them. */
 enum {
-    GUVTEMI_WRITTEN = 0,       /* export and import: no refusal, the outputs hold the result */
+    GUVTEMI_WRITTEN = 0,       /* export, import and heaviest: no refusal, the outputs hold the result */
     GUVTEMI_MALFORMED = 13,    /* import: a text is malformed, or beyond 64 links or 512 frequencies */
     GUVTEMI_BAD_EDGE = 14,     /* import: an edge inside a link, or repeated either way round */
     GUVTEMI_NO_ROOM = 15,      /* more than 8,192 pairs of kind 3, or an output shorter than what this call writes */
-    GUVTEMI_BAD_CHANNELS = 17  /* plan, check and spares: a channel out of 21 to 48, or not above the one before it */
+    GUVTEMI_BAD_CHANNELS = 17, /* plan, check and spares: a channel out of 21 to 48, or not above the one before it */
+    GUVTEMI_BAD_SIZES = 18     /* heaviest: k or m is 0, k above 64, k x m above 512, or the buffer under 65,536 bytes */
 };
 
 /* Channels of a list. */
@@ -102,6 +103,14 @@ uint64_t guvtemi_export(const uint8_t *sheet, size_t sheet_len, uint8_t *graph, 
 uint64_t guvtemi_import(const uint8_t *graph, size_t graph_len, const uint8_t *counts, size_t counts_len,
                         uint8_t *sheet, size_t sheet_len);
 
+/* Writes the heaviest job: a sheet of form 1 of k links with m frequencies each that takes as many nodes under filter 0 and
+   choice 0, with no channel on air, as any sheet of such links can: 2 + m + m^2 + .. + m^(k-1), and 2 for k = 1
+   (docs/FORMAT.md). It has a plan, which the search finds last.
+   k, m      1 to 64 links, 1 or more frequencies each, k x m at most 512; the product is exact
+   buffer    at least GUVTEMI_ENOUGH_SHEET_BYTES; zero past the sheet, and wholly zero on a refusal; the length is then 0
+   Returns the sheet's length plus 2^32 times the cause: 0 or 18. */
+uint64_t guvtemi_heaviest(uint32_t k, uint32_t m, uint8_t *buffer, size_t buffer_len);
+
 /* The half kHz in place (a, b) of a table of k links. */
 static inline int32_t guvtemi_spare(const uint8_t *table, size_t k, size_t a, size_t b)
 {
@@ -114,8 +123,9 @@ static inline uint32_t guvtemi_export_cause(uint64_t returned) { return (uint32_
 static inline uint32_t guvtemi_graph_length(uint64_t returned) { return (uint32_t)returned; }
 static inline uint32_t guvtemi_counts_length(uint64_t returned) { return (uint32_t)(returned >> 32) & 0xffff; }
 
-/* The cause and the length in what guvtemi_import returned. */
+/* The cause and the length in what guvtemi_import or guvtemi_heaviest returned. */
 static inline uint32_t guvtemi_import_cause(uint64_t returned) { return (uint32_t)(returned >> 32); }
+static inline uint32_t guvtemi_heaviest_cause(uint64_t returned) { return (uint32_t)(returned >> 32); }
 static inline uint32_t guvtemi_sheet_length(uint64_t returned) { return (uint32_t)returned; }
 
 #ifdef __cplusplus

@@ -1,8 +1,8 @@
 /* Calls the functions of include/guvtemi_desk.h for records on standard input and writes what came back to standard output.
 
-   A record, little-endian, 32 bits each: call (0 export, 1 import, 2 plan, 3 check, 4 spares), filter, choice, limit, the lengths of
-   its slices, four numbers, then their bytes; those of a slice that is written are what it holds before. A number that a call has no
-   use for is 0.
+   A record, little-endian, 32 bits each: call (0 export, 1 import, 2 plan, 3 check, 4 spares, 5 heaviest), three numbers (of plan:
+   filter, choice, limit; of heaviest: k, m), the lengths of its slices, four numbers, then their bytes; those of a slice that is
+   written are what it holds before. A number that a call has no use for is 0.
    An answer: the number returned (64 bits), 32 bits that are 0 where everything that must stay as it was did, then the bytes of each
    slice that is written.
 
@@ -24,7 +24,7 @@ enum { NUMBERS = 4, SLICES = 4 };
 /* The slices of each call, and the first of them that it writes. */
 static const struct {
     int slices, written;
-} SHAPES[] = {{3, 1}, {3, 2}, {4, 3}, {3, 3}, {4, 3}};
+} SHAPES[] = {{3, 1}, {3, 2}, {4, 3}, {3, 3}, {4, 3}, {1, 0}};
 
 typedef struct {
     size_t length;
@@ -84,8 +84,10 @@ static uint64_t call(const uint32_t *numbers, const Slice *slices)
                                 lent(d), d->length);
     case 3:
         return guvtemi_check_job(lent(a), a->length, lent(b), b->length, lent(c), c->length);
-    default:
+    case 4:
         return guvtemi_spares(lent(a), a->length, lent(b), b->length, lent(c), c->length, lent(d), d->length);
+    default:
+        return guvtemi_heaviest(numbers[1], numbers[2], lent(a), a->length);
     }
 }
 

@@ -1,5 +1,5 @@
 """Tests of the desk library: every call against the reading, what a round trip keeps, channels on air; those of the spare spacing
-alone are in spare_tests.py."""
+alone are in spare_tests.py, those of the heaviest job in heaviest_tests.py."""
 
 import random
 from collections import Counter
@@ -10,13 +10,13 @@ import native
 import reading
 import samples
 import spare_samples
-from desk_samples import CHECK, EXPORT, IMPORT, MOST_COUNT_BYTES, MOST_GRAPH_BYTES, PLAN, SPARES, DeskCall
+from desk_samples import CHECK, EXPORT, HEAVIEST, IMPORT, MOST_COUNT_BYTES, MOST_GRAPH_BYTES, PLAN, SPARES, DeskCall
 from harness import EXAMPLES, need, test
 from jobsheet.binary import LISTED, SPACING, Rule, Sheet, encode
 from native import DESK_ARCHIVE, SANITIZE
 
 GUARDED = ["-O2", "-DGUARD=64"]
-NAMES = {EXPORT: "export", IMPORT: "import", PLAN: "plan", CHECK: "check", SPARES: "spares"}
+NAMES = {EXPORT: "export", IMPORT: "import", PLAN: "plan", CHECK: "check", SPARES: "spares", HEAVIEST: "heaviest"}
 READINGS = {EXPORT: reading.desk_export, IMPORT: reading.desk_import, SPARES: reading.spares}  # of the slices read, and the lengths of those written
 
 
@@ -29,7 +29,9 @@ def wanted(call):
     if call.function == CHECK:
         return reading.check_job(*call.read), []
     room = map(len, call.written)
-    if call.function == PLAN:
+    if call.function == HEAVIEST:
+        returned, *after = reading.desk_heaviest(*call.setting[:2], *room)
+    elif call.function == PLAN:
         data, channels, classes = call.read
         returned, *after = reading.plan_job(data, channels, *call.setting, classes, *room)
     else:
@@ -39,7 +41,7 @@ def wanted(call):
 
 def cause_of(call, returned):
     """The cause, or the number of an answer."""
-    return returned >> {EXPORT: 48, IMPORT: 32, PLAN: 32, CHECK: 0, SPARES: 0}[call.function]
+    return returned >> {EXPORT: 48, IMPORT: 32, PLAN: 32, CHECK: 0, SPARES: 0, HEAVIEST: 32}[call.function]
 
 
 def compare(calls, found):
@@ -252,6 +254,8 @@ def checked_calls(args):
     calls += [call for _, _, call in [*air_samples.edge_calls(rng), *air_samples.order_calls(rng), *air_samples.empty_calls(rng)]][::5]
     calls += [spare_samples.random_spares_call(rng) for _ in range(150)] + list(spare_samples.limit_spares_calls(rng))[::5]
     calls += [call for *_, call in [*spare_samples.length_calls(rng), *spare_samples.order_calls(rng), *spare_samples.known_calls(rng)]][::9]
+    calls += [DeskCall(HEAVIEST, [], [b"\xee" * room], (k, m, 0)) for k, m in ((1, 1), (3, 2), (2, 256), (64, 8), (64, 2**26))
+              for room in (desk_samples.ENOUGH_SHEET_BYTES, desk_samples.ENOUGH_SHEET_BYTES - 1, 0)]
     return calls + list(desk_samples.limit_exports(rng))[::4]
 
 

@@ -24,7 +24,7 @@ from jobsheet.columns import width
 from native import DESK_ARCHIVE, ROOT, run
 from spare_samples import answered
 
-COMMANDS = ("make", "show", "why", "plan", "picture", "dimacs", "from-dimacs")
+COMMANDS = ("make", "show", "why", "plan", "picture", "dimacs", "from-dimacs", "heaviest")
 
 
 @test("examples/README.md says what the planner answers")

@@ -1,5 +1,5 @@
 """The proved calls of include/guvtemi_desk.h: planning with channels on air, the spare spacing of a plan, a sheet's graph as DIMACS text
-(docs/DIMACS.md) and back."""
+(docs/DIMACS.md) and back, the heaviest job."""
 
 import ctypes
 import os
@@ -21,12 +21,14 @@ CAUSES = {
     13: "a text is malformed, or beyond 64 links or 512 frequencies",
     14: "an edge inside a link, or repeated, either way round",
     15: "more than 8,192 pairs between links that are joined by some pairs and not by all",
+    18: "no links, more than 64, no frequencies, or more than 512 in all",
 }
 
 ADVICE = {
     13: "docs/DIMACS.md defines both texts.",
     14: "Two frequencies of one link are never joined; write each edge once.",
     15: "Join more links by all pairs or by none.",
+    18: "Give 1 to 64 links, and frequencies for each so that links times frequencies is at most 512.",
 }
 
 NUMBER = rb"(0|[1-9][0-9]*)"
@@ -71,6 +73,13 @@ def import_texts(graph, counts):
     """(cause, the bytes of a sheet) of two texts."""
     sheet = ctypes.create_string_buffer(ENOUGH_SHEET_BYTES)
     returned = _function("guvtemi_import", SLICE * 3)(graph, len(graph), counts, len(counts), sheet, len(sheet))
+    return returned >> 32, sheet.raw[:returned % 2**32]
+
+
+def heaviest(links, each):
+    """(cause, the bytes of a sheet) of the heaviest job of so many links with so many frequencies each; numbers of 32 bits."""
+    sheet = ctypes.create_string_buffer(ENOUGH_SHEET_BYTES)
+    returned = _function("guvtemi_heaviest", [ctypes.c_uint32] * 2 + SLICE)(links, each, sheet, len(sheet))
     return returned >> 32, sheet.raw[:returned % 2**32]
 
 

@@ -39,7 +39,7 @@ module _ (job : Job) (x : Setting) (l : ℕ) (ok : refusal (job .sheet) ≡ 0) (
       let own : linkOf job v ≡ l = sym (left-class job (linkOf job) v (left .0)) ∙ at .cl in
       let s = job .sheet in
       let here = layer-in s (kOf s) (nOf s) (accepted s ok .links) v (left .1) .1 in
-      clash (struck job v) (empty .struck v (subst (λ a. InLink s a v) own here)) (left .0))
+      clash (struck job v) (empty .each v (subst (λ a. InLink s a v) own here)) (left .0))
 
   no-tree : treeOf job x ≡ noPlan 0
   unfolding treeOf

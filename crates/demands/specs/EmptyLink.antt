@@ -14,7 +14,7 @@ use Rattle.demands.specs.CallDemands.{Called, causeOf}
 -- one of the job's links, of whose vertices each is struck
 pub record LeftEmpty (job : Job) (l : ℕ) : Type 0 where
   pub link : l < kOf (job .sheet)
-  pub struck : (v : ℕ) → InLink (job .sheet) l v → struck job v ≡ true
+  pub each : (v : ℕ) → InLink (job .sheet) l v → struck job v ≡ true
 
 -- no plan with 0 nodes, and m plan cells of zero
 abbrev pub noPlanAtOnce : ℕ → Outcome

@@ -18,8 +18,7 @@ use Rattle.pair_test.specs.Pairs.{samePair, listsPair, ofLinks, spareFree, spar
 use Rattle.pair_test.specs.Pairs.{spare}
 use Rattle.pair_test.proofs.Laws.{layer-in}
 use Rattle.spacing.proofs.Spacing.{near-barred, three-allowed}
-use Rattle.pair_test.proofs.Pairing.{free-allowed}
-use Rattle.pair_test.proofs.Pairing.{of-in, of-out, spare-when}
+use Rattle.pair_test.proofs.Pairing.{free-allowed, of-in, of-out, spare-when}
 use Rattle.graph.specs.Graph.{linksDiffer, adjacent}
 use Rattle.graph.proofs.Graph.{adjacent-out, adjacent-sym}
 use Rattle.dimacs.specs.Reading.{countOf, firstOf, verticesOf, layerBy}

@@ -20,8 +20,7 @@ use Rattle.spacing.specs.Spacing.{zeroOrMore}
 use Rattle.pair_test.specs.Pairs.{ofLinks, spareFree, spareRow, spare}
 use Rattle.pair_test.specs.Parts.{LinkRows, Parts}
 use Rattle.pair_test.proofs.Laws.{layer-of, layer-in, in-link-lt, link-test, rule-links}
-use Rattle.pair_test.proofs.Pairing.{of-in, of-not, spare-own, spare-turn, spare-past, spare-yet}
-use Rattle.pair_test.proofs.Pairing.{free-allowed}
+use Rattle.pair_test.proofs.Pairing.{free-allowed, of-in, of-not, spare-own, spare-turn, spare-past, spare-yet}
 use Rattle.rows.specs.Rows.{setAt, rowAt, Begins, Outside, Put}
 use Rattle.rows.proofs.Rows.{outside-then, outside-wide}
 use Rattle.cliques.specs.declared.Place.{Place}

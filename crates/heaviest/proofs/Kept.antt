@@ -2,21 +2,22 @@
 use mathlib.Core.Path.{_≡_, refl, sym, ap, _∙_, fun-ext}
 use mathlib.Core.Bool.{Bool, true, false, _&&_, _||_}
 use mathlib.Core.List.{List, _++_}
-use Prim.Native.Nat.{ℕ, suc, _+_, _*_, _/_, _%_, _≤_, _<_}
+use Prim.Native.Nat.{ℕ, _+_, _*_, _/_, _%_, _≤_, _<_}
 use native.Mathlib.Omega.{arith}
 use native.Mathlib.Nat.{mul-le-mul, mul-le-mul-right}
 use lib.Dec.{ltb, eqb}
-use lib.ListN.{length, take, drop, set}
+use lib.ListN.{take, drop}
 use lib.Seq.{take-at}
 use borrow.Author.Tests.{eq-eqb, ne-eqb, lt-ltb, le-ltb, ltb-true, ltb-false, eqb-true, eqb-false}
 use Rattle.sets.specs.Below.{tabulate}
 use Rattle.sets.specs.Sets.{Set, _∪_, just, nothing}
 use Rattle.sets.proofs.Tests.{bool, and-l, and-r, and-false}
-use Rattle.sets.proofs.Lists.{length-tabulate, tab-none, tab-more}
+use Rattle.sets.proofs.Lists.{length-tabulate}
 use Rattle.dimacs.specs.Made.{joined}
 use Rattle.dimacs.proofs.Codes.{code-lt, first-lt, second-lt}
 use Rattle.heaviest_sheet.specs.Written.{links, isLast, meets, isEdge, edges, graph}
 use Rattle.heaviest_sheet.specs.Call.{SizesFit}
+use Rattle.heaviest_sheet.proofs.Links.{or-none}
 use Rattle.heaviest.specs.Words.{upTo}
 
 -- the counts: those of the first l links are set
@@ -98,17 +99,9 @@ module _ (S E : Set) (z : ℕ) (e : S ≡ upTo z E) where
       (λ n. let ne = eqb-false v z n in bool (ltb v z)
       (λ l. let h = ltb-true v z l in rw (n, l, lt-ltb v (z + 1) (omega arith)) (or-none (E v)))
       (λ l. let h = ltb-false v z l in rw (n, l, le-ltb v (z + 1) (omega arith)) refl)))
-    where
-      or-none : (x : Bool) → (x || false) ≡ x
-      or-none true = refl
-      or-none false = refl
 
   pub kept-not : false ≡ E z → S ≡ upTo (z + 1) E
   kept-not f = split false S f (λ v. sym (ap (λ b. S v || b) (and-false (eqb v z) false refl) ∙ or-none (S v)))
-    where
-      or-none : (x : Bool) → (x || false) ≡ x
-      or-none true = refl
-      or-none false = refl
 
   pub kept-more : {T : Set} → T ≡ S ∪ just z → true ≡ E z → T ≡ upTo (z + 1) E
   unfolding _∪_ just

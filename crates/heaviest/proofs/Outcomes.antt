@@ -2,11 +2,10 @@
 use mathlib.Core.Path.{_≡_, refl, sym, ap, subst, _∙_}
 use mathlib.Core.Bool.{Bool, true, false, not, _&&_}
 use mathlib.Core.List.{List}
-use Prim.Native.Nat.{ℕ, _+_, _*_, _≤_, _<_}
+use Prim.Native.Nat.{ℕ, _*_, _≤_, _<_}
 use native.Mathlib.Omega.{arith}
 use lib.Dec.{ltb, leb}
 use lib.ListN.{length, take}
-use lib.Seq.{length-take-le}
 use borrow.Author.Tests.{lt-ltb, le-leb, lt-leb, not-true, not-false}
 use Rattle.sets.proofs.Tests.{and-in, and-false}
 use Rattle.vset.specs.Words.{has}
@@ -19,7 +18,6 @@ use Rattle.dimacs.specs.Made.{joined, pairTotal, sheetOf}
 use Rattle.dimacs.proofs.Choices.{yes-is, no-is}
 use Rattle.dimacs.proofs.Fields.{sections}
 use Rattle.dimacs.proofs.Few.{rules-few}
-use Rattle.graph_read.specs.Graphs.{Links}
 use Rattle.graph_sheet.specs.Pairs.{GraphIn, TotalsOf}
 use Rattle.graph_sheet.specs.declared.joins.Sizes.{Sizes}
 use Rattle.graph_sheet.specs.declared.joins.Totals.{Totals}
@@ -121,7 +119,8 @@ module _ (k m : ℕ) {b : List ℕ} (room : ℕ) (z : b ≡ zeros room) where
         → HeaviestGives (heaviestOf k m room) r b
     unfolding inRange
     short-gives h =
-        refused-gives (and-false (sizesOk k m) (leb 65536 room) (lt-leb 65536 room (omega (arith, zero-length b room z))))
+        let short = lt-leb 65536 room (omega (arith, zero-length b room z)) in
+        refused-gives (and-false (sizesOk k m) (leb 65536 room) short)
 
     pub sizes-fit : not t ≡ false → SizesFit k m
     sizes-fit f = sizes k m (sym e ∙ not-false t f)

@@ -12,7 +12,8 @@ abbrev pub heaviestNumber : HeaviestAnswer → ℕ
 heaviestNumber Written = 0
 heaviestNumber OutOfRange = 18
 
--- the answer r and the bytes that are left in the buffer are those of an outcome
+-- the answer r and the bytes that are left in the buffer are those of an outcome; no sheet is longer than the least
+-- buffer
 pub record HeaviestGives (o : HeaviestOutcome) (r : HeaviestSheet) (buffer : List ℕ) : Type 0 where
   pub answer : heaviestNumber (r .answer) ≡ o .answer
   pub length : r .length ≡ o .length

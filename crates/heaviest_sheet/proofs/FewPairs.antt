@@ -1,11 +1,11 @@
 -- The sheet of the heaviest job has few pairs: every rule is with the last link, and each vertex of the other link has
 -- at most two partners there.
 use mathlib.Core.Path.{_≡_, refl, sym, ap, _∙_}
-use mathlib.Core.Bool.{Bool, true, false, not, _&&_, _||_}
+use mathlib.Core.Bool.{Bool, true, false, not, _&&_}
 use mathlib.Core.List.{List}
 use Prim.Native.Nat.{ℕ, zero, suc, _+_, _-_, _*_, _/_, _%_, _≤_, _<_}
 use native.Mathlib.Omega.{arith}
-use native.Mathlib.Nat.{mul-le-mul-right, mod-lt}
+use native.Mathlib.Nat.{mul-le-mul-right}
 use lib.Dec.{ltb, eqb}
 use lib.ListN.{length}
 use borrow.Author.Tests.{lt-ltb, le-ltb, ltb-true, ltb-false, eq-eqb, ne-eqb, eqb-true, eqb-false}
@@ -13,12 +13,12 @@ use Rattle.sets.specs.Below.{count, sumTo}
 use Rattle.sets.proofs.Tests.{clash, bool, and-l, and-r, and-false, not-out}
 use Rattle.sets.proofs.Below.{count-add, one-mono}
 use Rattle.sheet.specs.Sheet.{mostPairs}
-use Rattle.dimacs.specs.Reading.{countOf, firstOf}
+use Rattle.dimacs.specs.Reading.{countOf}
 use Rattle.dimacs.specs.Made.{isPair, pairsOf, isFull, isRuled, ruledA, ruledB, rulePairs, pairsBefore, ruleTotal}
 use Rattle.dimacs.specs.Made.{pairTotal}
 use Rattle.dimacs.proofs.Lists.{select-length}
 use Rattle.dimacs.proofs.Codes.{code-first, code-second, code-back, code-lt, first-lt, second-lt}
-use Rattle.dimacs.proofs.Accepts.{Ruled, rule-count, ruled-is}
+use Rattle.dimacs.proofs.Accepts.{rule-count, ruled-is}
 use Rattle.tree_size.proofs.Counts.{count-within, count-just}
 use Rattle.heaviest_sheet.specs.Written.{links, isLast, meets, graph}
 use Rattle.heaviest_sheet.specs.Call.{SizesFit}

@@ -6,7 +6,7 @@ use native.Mathlib.Omega.{arith}
 use native.Mathlib.Nat.{mul-le-mul-right}
 use lib.Dec.{ltb, eqb}
 use borrow.Author.Tests.{lt-ltb, le-ltb, eq-eqb, ne-eqb, eqb-true, eqb-false}
-use Rattle.sets.proofs.Tests.{bool, and-false, iff}
+use Rattle.sets.proofs.Tests.{and-false, iff}
 use Rattle.cliques.specs.Graph.{Graph}
 use Rattle.dimacs.proofs.Codes.{code-second, code-back, first-lt, second-lt}
 use Rattle.tree_size.specs.FullGraph.{FullGraph}

@@ -5,25 +5,24 @@ use mathlib.Core.List.{List}
 use Prim.Native.Nat.{ℕ, zero, suc, _+_, _-_, _*_, _/_, _≤_, _<_}
 use native.Mathlib.Omega.{arith}
 use lib.Dec.{eqb, leb}
-use lib.ListN.{length, take}
+use lib.ListN.{length}
 use lib.Seq.{take-all, take-at}
 use borrow.Author.Tests.{eqb-true}
 use Rattle.sets.specs.Below.{count}
-use Rattle.sets.specs.Sets.{whole}
 use Rattle.sets.proofs.Tests.{bool, and-l}
 use Rattle.sets.proofs.Lists.{length-tabulate, getD-tabulate}
+use Rattle.wire.specs.Fields.{le32}
 use Rattle.sheet_rows.specs.Rows.{linkFirst}
 use Rattle.sheet.specs.Sheet.{kOf, nOf}
-use Rattle.sheet.specs.Refusal.{refusal}
 use Rattle.sheet.proofs.Accepted.{accepted}
 use Rattle.pair_test.specs.Layers.{InLink}
 use Rattle.pair_test.proofs.Laws.{layer-in}
 use Rattle.rules.specs.Job.{jobOf, unstruck}
-use Rattle.cliques.specs.Graph.{Graph, layered}
+use Rattle.cliques.specs.Graph.{layered}
 use Rattle.graph.specs.Graph.{linkOf, layer, edge}
 use Rattle.partition.specs.Partition.{classOf, layersOf, classes}
 use Rattle.partition.specs.Choice.{classList}
-use Rattle.search.specs.Tree.{Tree, found, noPlan, nodes}
+use Rattle.search.specs.Tree.{found, nodes}
 use Rattle.search.specs.Setting.{tree}
 use Rattle.search.specs.Limit.{plan, stopped, answer, answerNumber, reported}
 use Rattle.setting.specs.Setting.{Setting}
@@ -69,7 +68,9 @@ module _ (k m : ℕ) (s : List ℕ) (J : OfLinks k m s) (x : Setting) (e : x .ch
 
   job-most : nodes (treeOf (jobOf s) x) ≤ heaviestNodes k m
   unfolding treeOf
-  job-most = rw (← J .links) (tree-sizes .most (graphIn (jobOf s) x) m few (x .filter) (layer (jobOf s)) (unstruck (jobOf s)))
+  job-most =
+      rw (← J .links)
+      (tree-sizes .most (graphIn (jobOf s) x) m few (x .filter) (layer (jobOf s)) (unstruck (jobOf s)))
 
 -- the sheet, of suc z links
 module _ (z m : ℕ) (Z : SizesFit (suc z) m) where
@@ -88,6 +89,10 @@ module _ (z m : ℕ) (Z : SizesFit (suc z) m) where
         links = S .k ∙ links-length k m;
         freqs = λ l h. S .links .count l (omega (arith, links-length k m)) ∙ links-count k m l h;
       }
+
+  form : le32 s 0 ≡ 1
+  unfolding sheet
+  form = sections (links k m) (graph k m) .offsets .form
 
   vertices : nOf s ≡ k * m
   vertices = sheet-graph k m Z .vertices ∙ links-vertices k m
@@ -140,6 +145,7 @@ module _ (z m : ℕ) (Z : SizesFit (suc z) m) where
 pub heaviest-sheet : (k m : ℕ) → SizesFit k m → Heaviest k m (sheet k m)
 heaviest-sheet zero m Z = absurd (omega (arith, Z .k-some))
 heaviest-sheet (suc z) m Z = record {
+  form = form z m Z;
   job = job z m Z;
   size = λ x P. ap nodes (tree-is z m Z x P .1);
   most = job-most (suc z) m;

@@ -1,10 +1,10 @@
 -- The links of the heaviest job, and which of its vertices are adjacent.
 use mathlib.Core.Path.{_≡_, refl, sym, ap, subst, _∙_}
-use mathlib.Core.Bool.{Bool, true, false, _&&_, _||_}
+use mathlib.Core.Bool.{Bool, true, false, _||_}
 use Prim.Native.Nat.{ℕ, zero, suc, _+_, _-_, _*_, _/_, _%_, _≤_, _<_}
 use native.Mathlib.Omega.{arith}
 use native.Mathlib.Nat.{mod-lt, mul-le-mul-right}
-use lib.Dec.{ltb, eqb}
+use lib.Dec.{ltb}
 use lib.ListN.{length}
 use borrow.Author.Tests.{lt-ltb, le-ltb, ltb-true}
 use Rattle.sets.specs.Below.{sumTo}
@@ -20,6 +20,10 @@ use Rattle.dimacs.proofs.Adjacent.{Joins, layer-has, has-graph}
 use Rattle.dimacs.proofs.Sound.{Apart, joined-joins}
 use Rattle.heaviest_sheet.specs.Written.{links, meets, isEdge, edges, graph, sheet}
 use Rattle.heaviest_sheet.specs.Call.{SizesFit}
+
+pub or-none : (b : Bool) → (b || false) ≡ b
+or-none true = refl
+or-none false = refl
 
 -- the link of a vertex, by where it starts
 pub link-is : (m l v : ℕ) → l * m ≤ v → v < l * m + m → v / m ≡ l
@@ -55,9 +59,9 @@ module _ (k m : ℕ) where
 
     pub links-layer : (v : ℕ) → v < k * m → layerBy (links k m) (length (links k m)) v ≡ v / m
     links-layer v h =
-        let adj = graph k m in
         let l = layerBy (links k m) (length (links k m)) v in
-        let i = layer-has (links k m) _ links-small (sections (links k m) adj .links) v (omega (arith, links-vertices)) in
+        let rows = sections (links k m) (graph k m) .links in
+        let i = layer-has (links k m) _ links-small rows v (omega (arith, links-vertices)) in
         let b : l < k = omega (arith, i .link, links-length) in
         let f = links-first l (omega arith) in
         let c = links-count l b in
@@ -104,8 +108,4 @@ module _ (k m : ℕ) where
           lt-ltb (u / m) (v / m) h,
           le-ltb (v / m) (u / m) (omega arith),
         )
-        (or-none _)
-      where
-        or-none : (x : Bool) → (x || false) ≡ x
-        or-none true = refl
-        or-none false = refl
+        (or-none (meets k m u v))

@@ -1,5 +1,4 @@
 -- What the call that writes the heaviest job gives, for every k, m and buffer.
-use mathlib.Core.Path.{_≡_}
 use mathlib.Core.Bool.{Bool, true, false, _&&_}
 use mathlib.Core.List.{List}
 use Prim.Native.Nat.{ℕ, _*_, _≤_, _<_}

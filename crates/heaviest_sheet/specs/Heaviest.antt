@@ -5,6 +5,7 @@ use mathlib.Core.List.{List}
 use Prim.Native.Nat.{ℕ, _≤_, _<_}
 use lib.Dec.{leb}
 use lib.ListN.{take}
+use Rattle.wire.specs.Fields.{le32}
 use Rattle.sheet_rows.specs.Rows.{linkCount}
 use Rattle.sheet.specs.Sheet.{kOf}
 use Rattle.sheet.specs.Refusal.{refusal}
@@ -28,6 +29,8 @@ pub record Plain (x : Setting) : Type 0 where
 
 -- no list is lent: `jobOf`. The tree is the whole one, "also where the size is beyond every node limit"
 pub record Heaviest (k m : ℕ) (s : List ℕ) : Type 0 where
+  -- "such a form 1 sheet"
+  pub form : le32 s 0 ≡ 1
   pub job : OfLinks k m s
   pub size : (x : Setting) → Plain x → nodes (treeOf (jobOf s) x) ≡ heaviestNodes k m
   -- "no sheet of that k and m has a larger tree", under choice 0 with any filter number

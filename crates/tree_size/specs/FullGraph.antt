@@ -5,10 +5,10 @@ use Prim.Native.Nat.{ℕ, suc, _+_, _*_, _≤_, _<_}
 use lib.Dec.{eqb}
 use Rattle.cliques.specs.Graph.{Graph}
 
--- classes 0 to z of m vertices each, one after another; x is the last vertex of all. Below class z all vertices of
+-- classes 0 to z of m vertices each, one after another; x is the last vertex of all. Before class z all vertices of
 -- different classes are adjacent. To x only the last of each class is, so that only the last path leads to a plan. The
 -- first of class z is adjacent to all but the class before it, so that class z is not empty too early; that class is
--- adjacent to no other vertex of class z than x
+-- adjacent to no vertex of class z but x
 pub record FullGraph (G : Graph) (m z x : ℕ) : Type 0 where
   pub classes : G .k ≡ suc z
   pub size : G .n ≡ z * m + m

@@ -10,9 +10,9 @@ use trial_parts::first_bytes;
 use trial_parts::more;
 use trial_parts::narrow;
 use trial_parts::next;
-use trial_texts_calls::holds;
 use trial_texts_calls::is_same;
 use trial_texts_parts::fill_bytes;
+use trial_texts_parts::first_difference;
 
 // Calls since the last line printed.
 pub const HEAVIEST: usize = 16;
@@ -49,7 +49,11 @@ fn gives(
     if !says(h, number, wanted.len()) {
         return false;
     }
-    holds(b"in the heaviest job", buffer, wanted)
+    is_same(
+        b"first byte of the heaviest job that is another",
+        first_difference(buffer, wanted),
+        buffer.len(),
+    )
 }
 
 // The same in the first bytes of a buffer.

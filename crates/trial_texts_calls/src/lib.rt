@@ -13,5 +13,4 @@ pub use exporting::exports_all;
 pub use importing::imported_length;
 pub use importing::imports;
 pub use importing::imports_all;
-pub use report::holds;
 pub use report::is_same;

@@ -1,6 +1,5 @@
 -- `heaviest::heaviest` meets its contract, cause by cause.
 use borrow.Author.Needs.{needs}
-use native.Mathlib.Omega.{arith}
 use Rattle.heaviest.proofs.Outcomes.{sizes-gives, short-gives, sizes-fit, sheet-gives}
 use Rattle.heaviest.proofs.heaviest.Statement.{statement}
 use Rattle.heaviest.proofs.heaviest.Tie as tie
@@ -9,7 +8,8 @@ returns : tie.Need-returns
 returns c =
     let test = c .before .before in
     let zero = test .before .before .before in
-    sizes-gives _ _ _ (zero .zero-bytes .ensures) (test .sizes-ok .ensures) (c .before .if1 .taken) (c .refused .ensures)
+    let wrong = c .before .if1 .taken in
+    sizes-gives _ _ _ (zero .zero-bytes .ensures) (test .sizes-ok .ensures) wrong (c .refused .ensures)
 
 returns-2 : tie.Need-returns-2
 returns-2 c =

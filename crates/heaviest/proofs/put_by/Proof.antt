@@ -1,6 +1,5 @@
 -- `heaviest::put_by` meets its contract: the graph is kept in the words before.
 use borrow.Author.Needs.{needs}
-use native.Mathlib.Omega.{arith}
 use Rattle.graph_read.proofs.Texts.{cleared}
 use Rattle.heaviest.proofs.put_by.Statement.{statement}
 use Rattle.heaviest.proofs.put_by.Tie as tie

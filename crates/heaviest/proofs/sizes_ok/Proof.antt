@@ -1,5 +1,4 @@
 -- `heaviest::sizes_ok` meets its contract, test by test.
-use borrow.Author.Needs.{needs}
 use native.Mathlib.Omega.{arith}
 use native.Mathlib.Nat.{mul-le-mul}
 use Rattle.heaviest.proofs.Outcomes.{no-links, no-freqs, many-links, sizes-are}

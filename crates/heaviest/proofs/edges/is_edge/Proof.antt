@@ -13,7 +13,8 @@ returns-3 : tie.Need-returns-3
 returns-3 c =
     let last = c .before in
     let late = last .before in
-    edge-last _ _ _ _ (late .before .if1 .left) (omega (arith, late .if2 .left)) (last .both-last .ensures) (c .if3 .taken)
+    edge-last _ _ _ _ (late .before .if1 .left) (omega (arith, late .if2 .left)) (last .both-last .ensures)
+    (c .if3 .taken)
 
 returns-4 : tie.Need-returns-4
 returns-4 c =
