@@ -4,6 +4,8 @@ from dataclasses import dataclass
 from math import ceil, log10
 from xml.sax.saxutils import escape
 
+from jobsheet.desk import heaviest_nodes as nodes
+
 MOST_NODES = 20_000_000
 BY_FREQUENCIES = (2, 3, 4, 5, 6, 8, 12)  # links: a line each, against the frequencies of a link
 BY_LINKS = (2, 3, 4, 6, 10, 20, 64)      # frequencies of a link: a line each, against the links
@@ -23,11 +25,6 @@ text { font-family: 'DejaVu Sans Mono', Menlo, Consolas, monospace; font-size: 1
 .label { font-weight: bold }
 """
 COLOURS = ("#1f4e79", "#c0281c", "#3a7d34", "#8a5a00", "#6b3fa0", "#00757f", "#a3386c")
-
-
-def nodes(links, each):
-    """2 + m + m^2 + .. + m^(k-1)."""
-    return 1 + sum(each**depth for depth in range(links))
 
 
 def sizes():

@@ -1,8 +1,8 @@
 /* Guvtemi's calls for a planner's desk: a job planned and checked with the television channels on air, the spare spacing
    of every two links of a plan, a sheet's graph as DIMACS text, a sheet from such a text, and the job that takes the most
-   nodes. Link with target/staticlib/libdesk.a (written by `rt staticlib desk`; x86-64). The numbers of an answer and guvtemi_number,
-   guvtemi_nodes and guvtemi_khz are those of guvtemi.h, which this header includes; the two functions declared there are
-   in libconsole.a.
+   nodes. Link with target/staticlib/libdesk.a (written by `rt staticlib desk`; x86-64). The numbers of an answer and
+   guvtemi_number, guvtemi_nodes and guvtemi_khz are those of guvtemi.h, which this header includes; the two functions
+   declared there are in libconsole.a.
 
    A sheet is bytes as in docs/FORMAT.md, of form 1 or 2. A channel list is bytes too, a channel on air each, 21 to 48,
    strictly rising; channel c covers 470,000 + 8,000(c - 21) kHz up to, but without, 8,000 more. No bytes are no list. The

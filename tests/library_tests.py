@@ -13,7 +13,8 @@ from jobsheet.binary import LISTED, Rule, Sheet, encode
 from native import ARCHIVE, DESK_ARCHIVE, ROOT, SANITIZE, WARNINGS, run
 
 HEADERS = {"guvtemi.h": (ARCHIVE, {"guvtemi_plan", "guvtemi_check"}),
-           "guvtemi_desk.h": (DESK_ARCHIVE, {"guvtemi_export", "guvtemi_import", "guvtemi_plan_job", "guvtemi_check_job", "guvtemi_spares"})}
+           "guvtemi_desk.h": (DESK_ARCHIVE, {"guvtemi_export", "guvtemi_import", "guvtemi_plan_job", "guvtemi_check_job", "guvtemi_spares",
+                                             "guvtemi_heaviest"})}
 
 
 # ---- The libraries and the headers

@@ -83,6 +83,11 @@ def heaviest(links, each):
     return returned >> 32, sheet.raw[:returned % 2**32]
 
 
+def heaviest_nodes(links, each):
+    """How many nodes that job takes under filter 0 and choice 0."""
+    return 1 + sum(each**depth for depth in range(links))
+
+
 # ---- The shared object
 
 def _function(name, arguments):
