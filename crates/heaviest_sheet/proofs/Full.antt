@@ -52,7 +52,7 @@ module _ (z m : ℕ) (Z : SizesFit (suc z) m) where
   unfolding meets
   early-joined u v a b h g = graph-is (suc z) m Z u v a b h ∙ rw (lt-ltb (v / m + 1) (suc z) (omega arith)) refl
 
-  -- a link of more than one vertex does not begin with its last
+  -- to x only the last of a link is adjacent; where a link has more than one vertex, x is not the first of its own
   x-joined : (u : ℕ) → u < n → u / m < z → graph (suc z) m u x ≡ eqb (suc u) (u / m * m + m)
   unfolding meets
   x-joined u a h =
