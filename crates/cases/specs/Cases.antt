@@ -104,14 +104,14 @@ bothOrNeither false false = true
 
 -- "limit 1,000,000"
 abbrev pub settingWith : ℕ → ℕ → Setting
-settingWith filter choice = record { filter = filter; choice = choice; limit = 1000000; callers = [] }
+settingWith filter choice = record { filter = filter; choice = choice; limit = 1000000; callers = []; counts = false }
 
 -- a choice, or a caller's list
 abbrev pub choosing : ℕ → ℕ → Setting
 choosing choice filter = settingWith filter choice
 
 abbrev pub listing : List ℕ → ℕ → Setting
-listing callers filter = record { filter = filter; choice = 2; limit = 1000000; callers = callers }
+listing callers filter = record { filter = filter; choice = 2; limit = 1000000; callers = callers; counts = false }
 
 -- the vertices that the pre-filter leaves of the whole graph
 abbrev pub isLeft : Job → ℕ → Bool

@@ -1,3 +1,4 @@
 pub mod Graph
 pub mod Listing
 pub mod Words
+pub mod Extend

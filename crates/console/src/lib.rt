@@ -3,6 +3,7 @@
 ghost use mathlib.Core.Path.{_≡_};
 ghost use lib.ListN.{length};
 ghost use Rattle.rules.specs.Job.{jobOf};
+ghost use Rattle.setting.specs.Setting.{settingOf};
 ghost use Rattle.byte_calls.specs.ByteCalls.{outcomeIn, checkedIn, Handed};
 use byte_calls::check_bytes;
 use byte_calls::plan_bytes;
@@ -19,7 +20,7 @@ pub extern "C" fn guvtemi_plan(
     bytes: &mut [u8],
 ) -> u64
     ensures { λ r. ⌜ Handed (outcomeIn (jobOf (now (sheet .entry)))
-        (record { filter = filter; choice = choice; limit = limit; callers = now (classes .entry) })
+        (settingOf (record { filter = filter; choice = choice; limit = limit }) (now (classes .entry)))
         (length (now (bytes .entry))))
         (length (now (bytes .entry))) r (now (bytes .exit)) ⌝ }
 {

@@ -7,7 +7,6 @@ use borrow.Author.Tests.{leb-true, leb-false}
 use Rattle.sets.proofs.Tests.{case}
 use Rattle.search.specs.Tree.{Tree, found, noPlan, nodes}
 use Rattle.search.specs.Limit.{Answer, plan, none, stopped, answer}
-use Rattle.search.proofs.Tree.{Le}
 
 pub answer-case : (P : Answer → Type 0) (l : ℕ) (t : Tree)
     → ((c : ℕ → ℕ) (s : ℕ) → t ≡ found c s → s ≤ l → P (plan c s))
@@ -17,9 +16,3 @@ answer-case P l (found c s) f g h =
     case P (leb s l) (plan c s) (stopped l) (λ e. f c s refl (leb-true s l e)) (λ e. h (leb-false s l e))
 answer-case P l (noPlan s) f g h =
     case P (leb s l) (none s) (stopped l) (λ e. g s refl (leb-true s l e)) (λ e. h (leb-false s l e))
-
-pub le-nodes : (a b : Tree) → Le a b → nodes a ≤ nodes b
-le-nodes (found c s) (found e t) h = h .1
-le-nodes (found c s) (noPlan t) h = absurd h
-le-nodes (noPlan s) (found e t) h = absurd h
-le-nodes (noPlan s) (noPlan t) h = h

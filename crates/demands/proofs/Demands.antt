@@ -27,7 +27,7 @@ use Rattle.partition.specs.Partition.{classOf}
 use Rattle.search.specs.Tree.{Tree, found, noPlan, nodes}
 use Rattle.search.specs.Limit.{Answer, plan, none, stopped, answer}
 use Rattle.search.proofs.Order.{UpTo, same, earlier, upto-same}
-use Rattle.search.proofs.Tree.{All, Le}
+use Rattle.search.proofs.Tree.{All, Le, le-nodes}
 use Rattle.search.proofs.First.{First}
 use Rattle.search.proofs.Limit.{Follows, answer-follows}
 use Rattle.search.proofs.Setting.{tree-le, tree-good, tree-first}
@@ -39,7 +39,7 @@ use Rattle.planner.specs.Outcome.{treeOf, outcomeOf}
 use Rattle.planner.proofs.Accepted.{Call, call-accepted, choice-small}
 use Rattle.planner.proofs.Outcomes.{outcome-refused, outcome-accepted}
 use Rattle.demands.specs.Demands.{byClass, Later, Other, Answered, withFilter, Demand1, Demand3}
-use Rattle.demands.proofs.Answers.{answer-case, le-nodes}
+use Rattle.demands.proofs.Answers.{answer-case}
 
 module _ (job : Job) (x : Setting) (m w : ℕ) (C : Call job x m w) where
   abbrev s : List ℕ
@@ -142,11 +142,11 @@ module _ (job : Job) (x : Setting) (m w : ℕ) (C : Call job x m w) where
   -- what the tree says of its plan
   good : (t : Tree) → treeOf job x ≡ t → All (Clique (graphIn job x) 0 L) t
   unfolding treeOf
-  good t e = subst (All (Clique G 0 L)) e (tree-good G (layer job) L left (x .filter))
+  good t e = subst (All (Clique G 0 L)) e (tree-good G (layer job) L left (x .counts) (x .filter))
 
   first : (t : Tree) → treeOf job x ≡ t → First (graphIn job x) 0 L t
   unfolding treeOf
-  first t e = subst (First G 0 L) e (tree-first G (layer job) L left (x .filter))
+  first t e = subst (First G 0 L) e (tree-first G (layer job) L left (x .counts) (x .filter))
 
   answered : Answered job x (outcomeOf job m (answer (x .limit) (treeOf job x)))
   answered = answer-case (λ a. Answered job x (outcomeOf job m a)) (x .limit) (treeOf job x)
@@ -184,7 +184,7 @@ module _ (job : Job) (x : Setting) (m w : ℕ) (C : Call job x m w) where
   -- with filters added the tree has the same plan in no more nodes
   trees-le : (filter : ℕ) → Adds filter (x .filter) → Le (treeOf job (withFilter x filter)) (treeOf job x)
   unfolding treeOf classesOf
-  trees-le filter a = tree-le G (layer job) L left filter (x .filter) a
+  trees-le filter a = tree-le G (layer job) L left (x .counts) (x .counts) (λ h. h) filter (x .filter) a
 
 same-told : (job : Job) (m : ℕ) (a′ a : Answer) → Follows a′ a → (outcomeOf job m a .answer ≡ 102 → ⊥)
     → (outcomeOf job m a′ .answer ≡ outcomeOf job m a .answer) × (outcomeOf job m a′ .cells ≡ outcomeOf job m a .cells)

@@ -43,7 +43,7 @@ module _ (job : Job) (x : Setting) (l : ℕ) (ok : refusal (job .sheet) ≡ 0) (
 
   no-tree : treeOf job x ≡ noPlan 0
   unfolding treeOf
-  no-tree = tree-shut (x .filter) (graphIn job x) (layer job) (unstruck job)
+  no-tree = tree-shut (x .filter) (graphIn job x) (layer job) (unstruck job) (x .counts)
       (ap (λ b. b && isOpen (graphIn job x) 0 (unstruck job)) layer-empty)
 
   at-once : (m : ℕ) → outcomeOf job m (answer (x .limit) (treeOf job x)) ≡ noPlanAtOnce m

@@ -27,7 +27,7 @@ classesBy n k lay out adj x = classes n k adj (x .choice) (layersOf n lay) (x .c
 treeBy : ℕ → ℕ → (ℕ → ℕ) → Set → (ℕ → ℕ → Bool) → Setting → Tree
 treeBy n k lay out adj x =
     let l = classesBy n k lay out adj x in
-    tree (x .filter) (record { n = n; k = k; cls = λ v. cond (out v) k (classOf l v); adj = adj })
+    tree (x .counts) (x .filter) (record { n = n; k = k; cls = λ v. cond (out v) k (classOf l v); adj = adj })
     (λ v. cond (out v) k (lay v)) (λ v. not (out v) && ltb v n)
 
 listBy : ℕ → ℕ → (ℕ → ℕ) → Set → (ℕ → ℕ → Bool) → Setting → Bool

@@ -54,7 +54,13 @@ pub record Answered (job : Job) (x : Setting) (o : Outcome) : Type 0 where
 
 -- the setting with another filter number
 abbrev pub withFilter : Setting → ℕ → Setting
-withFilter x filter = record { filter = filter; choice = x .choice; limit = x .limit; callers = x .callers }
+withFilter x filter = record {
+  filter = filter;
+  choice = x .choice;
+  limit = x .limit;
+  callers = x .callers;
+  counts = x .counts;
+}
 
 -- "Adding filters never makes the tree larger and never changes the answer or the plan of a run that was not stopped"
 pub record Added (job : Job) (x : Setting) (filter : ℕ) (o′ o : Outcome) : Type 0 where

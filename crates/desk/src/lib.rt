@@ -10,6 +10,7 @@ ghost use Rattle.graph_export.specs.Gives.{exportNumber, mostGraph, mostCounts}
 ghost use Rattle.graph_import.specs.Gives.{mostSheet};
 ghost use Rattle.heaviest_sheet.specs.Call.{heaviestOf};
 ghost use Rattle.rules.specs.Job.{jobWith};
+ghost use Rattle.setting.specs.Setting.{settingOf};
 ghost use Rattle.byte_calls.specs.ByteCalls.{outcomeIn, cellsIn, checkedIn, Handed};
 ghost use Rattle.spares_bytes.specs.SparesBytes.{SparesHanded};
 ghost use Rattle.desk.specs.Desk.{ExportHanded, sheetWord, ImportHanded, HeaviestHanded};
@@ -75,7 +76,7 @@ pub extern "C" fn guvtemi_plan_job(
     cells: &mut [u8],
 ) -> u64
     ensures { λ r. ⌜ Handed (outcomeIn (jobWith (now (sheet .entry)) (now (channels .entry)))
-        (record { filter = filter; choice = choice; limit = limit; callers = now (classes .entry) })
+        (settingOf (record { filter = filter; choice = choice; limit = limit }) (now (classes .entry)))
         (length (now (cells .entry))))
         (length (now (cells .entry))) r (now (cells .exit)) ⌝ }
 {

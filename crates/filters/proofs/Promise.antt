@@ -1,43 +1,24 @@
 -- Cliques as sets, and filters that leave the greatest set with a property: such a filter keeps its promise, and two of
 -- them agree, whatever the order of their strikes.
 use mathlib.Core.Path.{_≡_, sym, ap, subst, _∙_, fun-ext}
-use mathlib.Core.Bool.{true, false, _&&_}
+use mathlib.Core.Bool.{true, false}
 use Prim.Native.Nat.{ℕ, _≤_, _<_}
-use lib.Dec.{eqb, ltb, leb}
-use borrow.Author.Tests.{eqb-true, eq-eqb, ltb-true, lt-ltb, leb-true, le-leb}
 use Rattle.sets.specs.Sets.{Set, _⊆_}
-use Rattle.sets.proofs.Tests.{clash, is-false, and-l, and-r, and-in, iff}
-use Rattle.cliques.specs.Graph.{Graph, At, isOpen, Clique}
+use Rattle.sets.proofs.Tests.{clash, is-false, iff}
+use Rattle.cliques.specs.Graph.{Graph, At, isOpen, Clique, cliqueSet}
 use Rattle.filters.specs.Promise.{Filter, Refines, Promise}
 use Rattle.filters.specs.Step.{OnTheWay}
-use Rattle.cliques.proofs.Graph.{open-mono, clique-move, clique-sub, clique-open}
+use Rattle.cliques.proofs.Graph.{open-mono, clique-move, clique-sub, clique-open, set-is, set-in}
 
 module _ (G : Graph) where
   open Graph G using (n, k, cls, adj)
 
-  -- the clique as a set
-  unfoldable pub cliqueSet : ℕ → (ℕ → ℕ) → Set
-  cliqueSet d c v = eqb (c (cls v)) v && (leb d (cls v) && ltb (cls v) k)
+  pub clique-set : (d : ℕ) (L : Set) (c : ℕ → ℕ) → Clique G d L c → Clique G d (cliqueSet G d c) c
+  clique-set d L c p = clique-move G d L (cliqueSet G d c) c p (λ j a b.
+      let e = p .at j a b .cl in set-in G d c (c j) (ap c e) (rw e a) (rw e b))
 
-  pub set-is : (d : ℕ) (c : ℕ → ℕ) (v : ℕ) → cliqueSet d c v ≡ true → (c (cls v) ≡ v) × (d ≤ cls v) × (cls v < k)
-  unfolding cliqueSet
-  set-is d c v h =
-      let r = and-r (eqb (c (cls v)) v) _ h in (
-        eqb-true _ _ (and-l (eqb (c (cls v)) v) _ h),
-        leb-true _ _ (and-l (leb d (cls v)) _ r),
-        ltb-true _ _ (and-r (leb d (cls v)) _ r),
-      )
-
-  pub set-in : (d : ℕ) (c : ℕ → ℕ) (v : ℕ) → c (cls v) ≡ v → d ≤ cls v → cls v < k → cliqueSet d c v ≡ true
-  unfolding cliqueSet
-  set-in d c v a x y = and-in (eq-eqb _ _ a) (and-in (le-leb _ _ x) (lt-ltb _ _ y))
-
-  pub clique-set : (d : ℕ) (L : Set) (c : ℕ → ℕ) → Clique G d L c → Clique G d (cliqueSet d c) c
-  clique-set d L c p = clique-move G d L (cliqueSet d c) c p (λ j a b.
-      let e = p .at j a b .cl in set-in d c (c j) (ap c e) (rw e a) (rw e b))
-
-  pub set-sub : (d : ℕ) (L : Set) (c : ℕ → ℕ) → Clique G d L c → cliqueSet d c ⊆ L
-  set-sub d L c p v h = let q = set-is d c v h in subst (λ x. L x ≡ true) (q .0) (p .at (cls v) (q .1) (q .2) .live)
+  pub set-sub : (d : ℕ) (L : Set) (c : ℕ → ℕ) → Clique G d L c → cliqueSet G d c ⊆ L
+  set-sub d L c p v h = let q = set-is G d c v h in subst (λ x. L x ≡ true) (q .0) (p .at (cls v) (q .1) (q .2) .live)
 
   -- a filter that leaves the greatest set with a property P, or a class empty
   pub record Greatest (P : ℕ → Set → Type 0) (F : Filter) : Type 0 where
@@ -49,22 +30,22 @@ module _ (G : Graph) where
   greatest-mono P F g d L M s o = g .keeps d M (F d L) o (g .closed d L o) (λ u h. s u (g .strikes d L u h))
 
   -- a clique's set has at most one vertex in a class
-  pub set-one : (d : ℕ) (c : ℕ → ℕ) (e v : ℕ) → At G e v (cliqueSet d c) → v ≡ c e
-  set-one d c e v x = let q = set-is d c v (x .live) in sym (q .0) ∙ ap c (x .cl)
+  pub set-one : (d : ℕ) (c : ℕ → ℕ) (e v : ℕ) → At G e v (cliqueSet G d c) → v ≡ c e
+  set-one d c e v x = let q = set-is G d c v (x .live) in sym (q .0) ∙ ap c (x .cl)
 
-  pub set-joined : (d : ℕ) (L : Set) (c : ℕ → ℕ) → Clique G d L c → (v u : ℕ) → cliqueSet d c v ≡ true
-      → cliqueSet d c u ≡ true → (cls u ≡ cls v → ⊥) → adj v u ≡ true
+  pub set-joined : (d : ℕ) (L : Set) (c : ℕ → ℕ) → Clique G d L c → (v u : ℕ) → cliqueSet G d c v ≡ true
+      → cliqueSet G d c u ≡ true → (cls u ≡ cls v → ⊥) → adj v u ≡ true
   set-joined d L c p v u x y ne =
-      let q = set-is d c v x in let r = set-is d c u y in
+      let q = set-is G d c v x in let r = set-is G d c u y in
       let h = p .joined (cls v) (cls u) (q .1) (q .2) (r .1) (r .2) (λ e. ne (sym e)) in
       subst (λ w. adj w u ≡ true) (q .0) (subst (λ w. adj (c (cls v)) w ≡ true) (r .0) h)
 
   pub greatest-promise : (P : ℕ → Set → Type 0) (F : Filter) → Greatest P F
-      → ((d : ℕ) (L : Set) (c : ℕ → ℕ) → Clique G d L c → P d (cliqueSet d c)) → Promise G F
+      → ((d : ℕ) (L : Set) (c : ℕ → ℕ) → Clique G d L c → P d (cliqueSet G d c)) → Promise G F
   greatest-promise P F g f = record {
     strikes = g .strikes;
     keeps = λ d L c p. let q = clique-set d L c p in
-        clique-sub G d (cliqueSet d c) (F d L) c (g .keeps d L (cliqueSet d c) (clique-open G d (cliqueSet d c) c q)
+        clique-sub G d (cliqueSet G d c) (F d L) c (g .keeps d L (cliqueSet G d c) (clique-open G d (cliqueSet G d c) c q)
         (f d L c p) (set-sub d L c p)) q;
     refines = greatest-mono P F g;
   }

@@ -11,11 +11,11 @@ use Rattle.sets.specs.Sets.{Set, _⊆_, _∪_, just, nothing}
 use Rattle.sets.proofs.Tests.{clash, and-l, and-r, and-in, or-l, or-r, or-case, not-out, not-in, bool, case}
 use Rattle.sets.proofs.Below.{first-lt, first-is, any-no, count-le, count-less, count-pos}
 use Rattle.sets.proofs.Sets.{meet-l, meet-r, meet-in}
-use Rattle.cliques.specs.Graph.{Graph, At, lone, lower, isOpen, Clique}
+use Rattle.cliques.specs.Graph.{Graph, At, lone, lower, isOpen, Clique, cliqueSet}
 use Rattle.filters.specs.Promise.{Promise}
 use Rattle.filters.specs.Unit.{stays, strike, due, steps, unit}
 use Rattle.cliques.proofs.Graph.{Sole, at-sub, lone-sole, sole-lone, sole-sub, open-out}
-use Rattle.filters.proofs.Promise.{Greatest, cliqueSet, set-joined, greatest-promise}
+use Rattle.filters.proofs.Promise.{Greatest, set-joined, greatest-promise}
 
 module _ (G : Graph) where
   open Graph G using (n, k, cls, adj)

@@ -11,7 +11,7 @@ use lib.ListN.{length}
 use borrow.Author.Tests.{lt-ltb, le-ltb, ltb-true, ltb-false, eq-eqb, ne-eqb, eqb-true, eqb-false}
 use Rattle.sets.specs.Below.{count, sumTo}
 use Rattle.sets.proofs.Tests.{clash, bool, and-l, and-r, and-false, not-out}
-use Rattle.sets.proofs.Below.{count-add, one-mono}
+use Rattle.sets.proofs.Below.{count-add, count-within, count-just, one-mono}
 use Rattle.sheet.specs.Sheet.{mostPairs}
 use Rattle.dimacs.specs.Reading.{countOf}
 use Rattle.dimacs.specs.Made.{isPair, pairsOf, isFull, isRuled, ruledA, ruledB, rulePairs, pairsBefore, ruleTotal}
@@ -19,7 +19,6 @@ use Rattle.dimacs.specs.Made.{pairTotal}
 use Rattle.dimacs.proofs.Lists.{select-length}
 use Rattle.dimacs.proofs.Codes.{code-first, code-second, code-back, code-lt, first-lt, second-lt}
 use Rattle.dimacs.proofs.Accepts.{rule-count, ruled-is}
-use Rattle.tree_size.proofs.Counts.{count-within, count-just}
 use Rattle.heaviest_sheet.specs.Written.{links, isLast, meets, graph}
 use Rattle.heaviest_sheet.specs.Call.{SizesFit}
 use Rattle.heaviest_sheet.proofs.Links.{links-length, links-count, links-first, links-small, graph-is}

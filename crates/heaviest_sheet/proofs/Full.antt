@@ -9,7 +9,7 @@ use borrow.Author.Tests.{lt-ltb, le-ltb, eq-eqb, ne-eqb, eqb-true, eqb-false}
 use Rattle.sets.proofs.Tests.{and-false, iff}
 use Rattle.cliques.specs.Graph.{Graph}
 use Rattle.dimacs.proofs.Codes.{code-second, code-back, first-lt, second-lt}
-use Rattle.tree_size.specs.FullGraph.{FullGraph}
+use Rattle.tree_size.proofs.FullGraph.{FullGraph}
 use Rattle.heaviest_sheet.specs.Written.{isLast, meets, graph}
 use Rattle.heaviest_sheet.specs.Call.{SizesFit}
 use Rattle.heaviest_sheet.proofs.Links.{link-is, graph-is}

@@ -1,5 +1,5 @@
 -- The sheet that is written is the heaviest job of its k and m.
-use mathlib.Core.Path.{_≡_, refl, sym, ap, subst, _∙_}
+use mathlib.Core.Path.{_≡_, refl, sym, ap, ap₂, subst, _∙_}
 use mathlib.Core.Bool.{Bool, true, false, cond}
 use mathlib.Core.List.{List}
 use Prim.Native.Nat.{ℕ, zero, suc, _+_, _-_, _*_, _/_, _≤_, _<_}
@@ -10,6 +10,7 @@ use lib.Seq.{take-all, take-at}
 use borrow.Author.Tests.{eqb-true}
 use Rattle.sets.specs.Below.{count}
 use Rattle.sets.proofs.Tests.{bool, and-l}
+use Rattle.sets.proofs.Below.{count-within}
 use Rattle.sets.proofs.Lists.{length-tabulate, getD-tabulate}
 use Rattle.wire.specs.Fields.{le32}
 use Rattle.sheet_rows.specs.Rows.{linkFirst}
@@ -35,8 +36,7 @@ use Rattle.dimacs.proofs.Choices.{yes-is, no-is}
 use Rattle.dimacs.proofs.Accepted.{sheet-accepted}
 use Rattle.dimacs.proofs.Fields.{sections}
 use Rattle.tree_size.specs.Size.{heaviestNodes}
-use Rattle.tree_size.proofs.Counts.{count-within}
-use Rattle.tree_size.proofs.TreeSizes.{tree-sizes}
+use Rattle.tree_size.proofs.TreeSizes.{tree-sizes, full-size}
 use Rattle.heaviest_sheet.specs.Written.{links, graph, sheet}
 use Rattle.heaviest_sheet.specs.Call.{sizesOk, SizesFit, inRange, HeaviestOutcome, heaviestOf}
 use Rattle.heaviest_sheet.specs.Heaviest.{OfLinks, Plain, Heaviest, sheetWritten, HeaviestJob}
@@ -56,7 +56,8 @@ class-link s x v e h =
     rw e (ap (λ l. classOf l v) (take-all n _ (omega (arith, length-tabulate n f))) ∙ getD-tabulate n f v 0 h)
 
 -- no tree of k links with m frequencies each is larger
-module _ (k m : ℕ) (s : List ℕ) (J : OfLinks k m s) (x : Setting) (e : x .choice ≡ 0) where
+module _ (k m : ℕ) (s : List ℕ) (J : OfLinks k m s) (x : Setting) (e : x .choice ≡ 0)
+    (until : x .counts ≡ false) where
   few : (c : ℕ) → count (nOf s) (λ v. eqb (classOf (classesOf (jobOf s) x) v) c) ≤ m
   few c = count-within (nOf s) (linkFirst s c) m (λ v. eqb (classOf (classesOf (jobOf s) x) v) c) (λ v h t.
       let i = layer-in s (kOf s) (nOf s) (accepted s (J .accepted) .links) v h in
@@ -70,7 +71,9 @@ module _ (k m : ℕ) (s : List ℕ) (J : OfLinks k m s) (x : Setting) (e : x .ch
   unfolding treeOf
   job-most =
       rw (← J .links)
-      (tree-sizes .most (graphIn (jobOf s) x) m few (x .filter) (layer (jobOf s)) (unstruck (jobOf s)))
+      (subst (λ on. nodes (tree on (x .filter) (graphIn (jobOf s) x) (layer (jobOf s)) (unstruck (jobOf s)))
+      ≤ heaviestNodes (kOf s) m) (sym until)
+      (tree-sizes .most (graphIn (jobOf s) x) m few (x .filter) (layer (jobOf s)) (unstruck (jobOf s))))
 
 -- the sheet, of suc z links
 module _ (z m : ℕ) (Z : SizesFit (suc z) m) where
@@ -111,10 +114,10 @@ module _ (z m : ℕ) (Z : SizesFit (suc z) m) where
         let lay = layer (jobOf s) in
         let A = full z m Z G (job .links) vertices (λ v h. class-link s x v (P .choice) h ∙ link-is v h) edge-is in
         let B = full z m Z (layered G lay) (job .links) vertices link-is edge-is in
-        let T = tree-sizes .just G m z (z * m + m - 1) lay A B in (
+        let T = full-size G m z (z * m + m - 1) lay A B in (
           T .0,
-          ap (λ f. tree f G lay (unstruck (jobOf s))) (P .filter)
-              ∙ ap (tree 0 G lay) (nothing-struck .without s .live)
+          ap₂ (λ on f. tree on f G lay (unstruck (jobOf s))) (P .first) (P .filter)
+              ∙ ap (tree false 0 G lay) (nothing-struck .without s .live)
               ∙ T .1 ∙ ap (λ j. found (T .0) (heaviestNodes j m)) (job .links),
         )
 

@@ -1,6 +1,6 @@
 -- What is shown of the heaviest job.
 use mathlib.Core.Path.{_≡_}
-use mathlib.Core.Bool.{cond}
+use mathlib.Core.Bool.{false, cond}
 use mathlib.Core.List.{List}
 use Prim.Native.Nat.{ℕ, _≤_, _<_}
 use lib.Dec.{leb}
@@ -22,10 +22,11 @@ pub record OfLinks (k m : ℕ) (s : List ℕ) : Type 0 where
   pub links : kOf s ≡ k
   pub freqs : (l : ℕ) → l < k → linkCount s l ≡ m
 
--- "under filter 0 and choice 0"
+-- "under filter 0 and choice 0"; a run until the first plan: "any other run, and Ask 6, keep the tree of document 01"
 pub record Plain (x : Setting) : Type 0 where
   pub filter : x .filter ≡ 0
   pub choice : x .choice ≡ 0
+  pub first : x .counts ≡ false
 
 -- no list is lent: `jobOf`. The tree is the whole one, "also where the size is beyond every node limit"
 pub record Heaviest (k m : ℕ) (s : List ℕ) : Type 0 where
@@ -34,7 +35,7 @@ pub record Heaviest (k m : ℕ) (s : List ℕ) : Type 0 where
   pub job : OfLinks k m s
   pub size : (x : Setting) → Plain x → nodes (treeOf (jobOf s) x) ≡ heaviestNodes k m
   -- "no sheet of that k and m has a larger tree", under choice 0 with any filter number
-  pub most : (other : List ℕ) → OfLinks k m other → (x : Setting) → x .choice ≡ 0
+  pub most : (other : List ℕ) → OfLinks k m other → (x : Setting) → x .choice ≡ 0 → x .counts ≡ false
       → nodes (treeOf (jobOf other) x) ≤ heaviestNodes k m
   -- a planning call with it: found where the limit allows the whole tree, stopped at every lower limit
   pub answer : (x : Setting) (c w : ℕ) → Plain x → callRefusal (jobOf s) x c w ≡ 0

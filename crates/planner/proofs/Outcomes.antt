@@ -11,17 +11,19 @@ use Rattle.sheet.specs.Sheet.{kOf}
 use Rattle.sheet.specs.Refusal.{numberOf, refusal, unless}
 use Rattle.sheet.specs.declared.Cause.{Cause}
 use Rattle.sheet.specs.declared.Reading.{Reading}
-use Rattle.sheet.specs.declared.Reading.the-variants.{Refused}
+use Rattle.sheet.specs.declared.Reading.the-variants as ReadingIs
 use Rattle.sheet.proofs.Causes.{cause-some}
 use Rattle.rules.specs.Job.{Job}
 use Rattle.search.specs.Limit.{answer}
 use Rattle.zeros.specs.Zeros.{zeros}
-use Rattle.setting.specs.Setting.{Setting, settingOk}
+use Rattle.setting.specs.Setting.{Setting, settingWith, settingOk}
+use Rattle.setting.specs.declared.Options.{Options}
 use Rattle.work_words.specs.Layout.{workWords}
 use Rattle.work_words.specs.Classes.{listOk}
 use Rattle.planner.specs.Outcome.{Outcome, settingCause, callRefusal, treeOf, outcomeOf, refused, unlessRefused}
 use Rattle.planner.specs.Outcome.{outcome}
-use Rattle.planner.specs.Planned.{verdictNumber, Gives, Ready, gave}
+use Rattle.planner.specs.Planned.{verdictNumber, FirstCause, Gives, Ready, gave}
+use Rattle.planner.specs.declared.Asked.the-variants.{Refused}
 use Rattle.planner.specs.declared.Planned.{Planned}
 use Rattle.planner.specs.declared.Verdict.{Verdict}
 use Rattle.planner.specs.declared.Verdict.the-variants.{BadSheet}
@@ -87,21 +89,21 @@ module _ (job : Job) (x : Setting) (m w : ℕ) where
       subst (λ o. Gives o p cells) (sym (outcome-refused (λ i. omega arith)))
       (record { answer = ap (λ y. verdictNumber (y .verdict)) y ∙ q ∙ sym e; nodes = ap (λ y. y .nodes) y; cells = z })
 
-  -- the reader has refused the sheet
-  pub gives-sheet-refused : {reading : Reading} {cause : Cause} {p : Planned} {cells : List ℕ}
-      → numberOf reading ≡ refusal (job .sheet) → reading ≡ Refused cause
-      → p ≡ record { verdict = BadSheet cause; nodes = 0 }
-      → cells ≡ zeros m → Gives (outcome job x m w) p cells
-  gives-sheet-refused {cause = cause} e t y z =
-      let n = sym (ap numberOf t) ∙ e in
-      let l = cause-some cause in
-      gives-refused (BadSheet cause) (refusal (job .sheet)) (sheet-cause (λ i. omega arith)) (omega arith) n y z
+-- the reader has refused the sheet, whatever else is lent
+pub sheet-refused : (job : Job) (options : Options) (m w : ℕ) {reading : Reading} {cause : Cause}
+    → numberOf reading ≡ refusal (job .sheet) → reading ≡ ReadingIs.Refused cause
+    → FirstCause job options m w (Refused (BadSheet cause))
+sheet-refused job options m w {cause = cause} e t =
+    let n = sym (ap numberOf t) ∙ e in
+    let l = cause-some cause in
+    (l, λ on callers. sheet-cause job (settingWith on options callers) m w (λ i. omega arith) ∙ sym n)
 
 -- a call that has passed causes 1 to 11, 16 and 17, up to the caller's list
-module _ {job : Job} {x : Setting} {built chosen : ℕ} {cells : List ℕ} {w : ℕ} (R : Ready job x built chosen cells w)
+module _ {job : Job} {x : Setting} {chosen : ℕ} {cells : List ℕ} {w : ℕ} (R : Ready job x chosen cells w)
   where
     pub ready-cause : callRefusal job x (length cells) w ≡ unless (listOk job x) 12
-    ready-cause = cause-12 job x (length cells) w (R .sheet) (R .setting) (R .enough) (R .words) (R .channels)
+    ready-cause = cause-12 job x (length cells) w (R .passed .sheet) (R .passed .setting) (R .enough)
+        (R .passed .words) (R .passed .channels)
 
     pub ready-accepted : listOk job x ≡ true → callRefusal job x (length cells) w ≡ 0
     unfolding unless

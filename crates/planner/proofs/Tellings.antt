@@ -51,7 +51,7 @@ answer-all : (P : (ℕ → ℕ) → Type 0) (l : ℕ) (t : Tree) → All P t →
 answer-all P l (found c s) h = case (AllOf P) (leb s l) (plan c s) (stopped l) (λ e. h) (λ e. tt)
 answer-all P l (noPlan s) h = case (AllOf P) (leb s l) (none s) (stopped l) (λ e. tt) (λ e. tt)
 
-module _ (job : Job) (A : Accepted (job .sheet)) (cls : ℕ → ℕ) where
+module _ (job : Job) (A : Accepted (job .sheet)) (cls : ℕ → ℕ) (on : Bool) where
   abbrev s : List ℕ
   s = job .sheet
 
@@ -63,7 +63,7 @@ module _ (job : Job) (A : Accepted (job .sheet)) (cls : ℕ → ℕ) where
   -- the cells of a plan that was found list a vertex of each link
   chosen-from : (a : Answer) (c c′ : List ℕ) → answerNumber a ≡ 100
       → AllOf (Clique (graphOf job cls) 0 (unstruck job)) a
-      → Cells 0 (kOf (job .sheet)) c c′ a → kOf (job .sheet) ≤ length c′ → Chosen (job .sheet) c′
+      → Cells on 0 (kOf (job .sheet)) c c′ a → kOf (job .sheet) ≤ length c′ → Chosen (job .sheet) c′
   chosen-from (plan p t) c c′ e C L long = record {
     accepted = A;
     listed = long;
@@ -87,7 +87,7 @@ module _ (job : Job) (A : Accepted (job .sheet)) (cls : ℕ → ℕ) where
 
   -- what was finished is what the answer says
   finished-gives : (a : Answer) (c c′ cells : List ℕ) (m : ℕ) (out : RunOutcome) (r : Planned) → Tells out a
-      → AllOf (Clique (graphOf job cls) 0 (unstruck job)) a → Cells 0 (kOf (job .sheet)) c c′ a
+      → AllOf (Clique (graphOf job cls) 0 (unstruck job)) a → Cells on 0 (kOf (job .sheet)) c c′ a
       → Finished (job .sheet) c′ out m cells r
       → Gives (outcomeOf job m a) r cells
   finished-gives (plan p t) c c′ cells m out r T C L F = record {
@@ -105,7 +105,7 @@ module _ (job : Job) (A : Accepted (job .sheet)) (cls : ℕ → ℕ) where
 -- the search of words that are filled
 module _ {job : Job} {x : Setting} {place : Place} {layers : ℕ} {p p′ c c′ : List ℕ} {r : Bool} {out : RunOutcome}
     (A : Accepted (job .sheet)) (links : place .k ≡ kOf (job .sheet)) (F : Filled job x place layers p r)
-    (e : not r ≡ false) (S : Searched (x .filter) place layers (x .limit) p p′ c c′ out) where
+    (e : not r ≡ false) (S : Searched (x .counts) (x .filter) place layers (x .limit) p p′ c c′ out) where
   -- the class of each vertex
   abbrev cls : ℕ → ℕ
   cls = unlessStruck job (classOf (classesOf job x))
@@ -115,38 +115,38 @@ module _ {job : Job} {x : Setting} {place : Place} {layers : ℕ} {p p′ c c′
 
   tells : Tells out (answer (x .limit) (treeOf job x))
   unfolding treeOf
-  tells = subst (λ L. Tells out (answer (x .limit) (tree (x .filter) (graphIn job x) (layer job) L))) (F .root yes)
+  tells = subst (λ L. Tells out (answer (x .limit) (tree (x .counts) (x .filter) (graphIn job x) (layer job) L))) (F .root yes)
       (S .says (graphIn job x) (layer job) (F .by-class yes) (F .by-layer yes))
 
-  cells-are : Cells 0 (kOf (job .sheet)) c c′ (answer (x .limit) (treeOf job x))
+  cells-are : Cells (x .counts) 0 (kOf (job .sheet)) c c′ (answer (x .limit) (treeOf job x))
   unfolding treeOf
-  cells-are = subst (λ k. Cells 0 k c c′
-      (answer (x .limit) (tree (x .filter) (graphIn job x) (layer job) (unstruck job)))) links
-      (subst (λ L. Cells 0 (place .k) c c′ (answer (x .limit) (tree (x .filter) (graphIn job x) (layer job) L)))
+  cells-are = subst (λ k. Cells (x .counts) 0 k c c′
+      (answer (x .limit) (tree (x .counts) (x .filter) (graphIn job x) (layer job) (unstruck job)))) links
+      (subst (λ L. Cells (x .counts) 0 (place .k) c c′ (answer (x .limit) (tree (x .counts) (x .filter) (graphIn job x) (layer job) L)))
       (F .root yes) (S .cells (graphIn job x) (layer job) (F .by-class yes) (F .by-layer yes)))
 
   good : AllOf (Clique (graphIn job x) 0 (unstruck job)) (answer (x .limit) (treeOf job x))
   unfolding treeOf
   good = answer-all (Clique (graphIn job x) 0 (unstruck job)) (x .limit)
-      (tree (x .filter) (graphIn job x) (layer job) (unstruck job))
+      (tree (x .counts) (x .filter) (graphIn job x) (layer job) (unstruck job))
       (tree-good (graphIn job x) (layer job) (unstruck job) (layers-left job cls (linkOf job) (links-of job A cls))
-      (x .filter))
+      (x .counts) (x .filter))
 
   pub search-chosen : runNumber (out .verdict) ≡ 100 → kOf (job .sheet) ≤ length c′ → Chosen (job .sheet) c′
-  search-chosen h long = chosen-from job A cls (answer (x .limit) (treeOf job x)) c c′
+  search-chosen h long = chosen-from job A cls (x .counts) (answer (x .limit) (treeOf job x)) c c′
       (sym (tells .number) ∙ h) good cells-are long
 
-  pub search-gives : {built chosen w : ℕ} {zeroed cells : List ℕ} {o : Planned} → Ready job x built chosen zeroed w
+  pub search-gives : {chosen w : ℕ} {zeroed cells : List ℕ} {o : Planned} → Ready job x chosen zeroed w
       → Finished (job .sheet) c′ out (length zeroed) cells o → Gives (outcome job x (length zeroed) w) o cells
   search-gives {w = w} {zeroed} {cells} {o} R X =
       rw (outcome-accepted job x (length zeroed) w (ready-accepted R (sym (F .list) ∙ yes)))
-      (finished-gives job A cls (answer (x .limit) (treeOf job x)) c c′ cells (length zeroed) out o
+      (finished-gives job A cls (x .counts) (answer (x .limit) (treeOf job x)) c c′ cells (length zeroed) out o
       tells good cells-are X)
 
 -- the caller's list is refused
-pub list-gives : {job : Job} {x : Setting} {place : Place} {layers built chosen w : ℕ} {p cells : List ℕ} {r : Bool}
+pub list-gives : {job : Job} {x : Setting} {place : Place} {layers chosen w : ℕ} {p cells : List ℕ} {r : Bool}
     {o : Planned}
-    → Ready job x built chosen cells w → Filled job x place layers p r → not r ≡ true
+    → Ready job x chosen cells w → Filled job x place layers p r → not r ≡ true
     → o ≡ record { verdict = CallVerdict.the-variants.BadList; nodes = 0 }
     → Gives (outcome job x (length cells) w) o cells
 list-gives {job} {x} {w = w} {cells = cells} {r} R F e v =

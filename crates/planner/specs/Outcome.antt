@@ -31,9 +31,10 @@ settingCause job x m w =
 unfoldable pub callRefusal : Job → Setting → ℕ → ℕ → ℕ
 callRefusal job x m w = passing (eqb (refusal (job .sheet)) 0) (refusal (job .sheet)) λ _. settingCause job x m w
 
--- "The tree of a setting", from the vertices that are left
+-- "The tree of a setting", from the vertices that are left; "A run asked for these counts goes on after a plan to the
+-- end"
 unfoldable pub treeOf : Job → Setting → Tree
-treeOf job x = tree (x .filter) (graphIn job x) (layer job) (unstruck job)
+treeOf job x = tree (x .counts) (x .filter) (graphIn job x) (layer job) (unstruck job)
 
 -- what a call gives: a refusal number 1 to 12, 16 or 17, 100 for found, 101 for no plan or 102 for stopped; the nodes;
 -- and every plan cell

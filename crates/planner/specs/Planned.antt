@@ -1,8 +1,8 @@
 -- What a planning call's answer is in the paper's numbers, what the two calls promise, and what their parts do.
 use mathlib.Core.Path.{_≡_}
-use mathlib.Core.Bool.{true}
+use mathlib.Core.Bool.{Bool, true}
 use mathlib.Core.List.{List}
-use Prim.Native.Nat.{ℕ, _≤_}
+use Prim.Native.Nat.{ℕ, _≤_, _<_}
 use lib.ListN.{length}
 use Rattle.channels.specs.Channels.{channelsOk}
 use Rattle.sheet.specs.Sheet.{kOf, nOf}
@@ -14,13 +14,18 @@ use Rattle.search.specs.Walk.{runNumber}
 use Rattle.search.specs.declared.RunOutcome.{RunOutcome}
 use Rattle.zeros.specs.Zeros.{zeros}
 use Rattle.cells.specs.Cells.{chosenBy, planCells}
-use Rattle.setting.specs.Setting.{Setting, settingOk}
-use Rattle.work_words.specs.Layout.{workWords}
-use Rattle.planner.specs.Outcome.{Outcome, outcome}
+use Rattle.setting.specs.Setting.{Setting, settingWith, settingOk}
+use Rattle.setting.specs.declared.Options.{Options}
+use Rattle.work_words.specs.Layout.{workWords, LaidOut}
+use Rattle.work_words.specs.Filled.{Filled}
+use Rattle.planner.specs.Outcome.{Outcome, callRefusal, outcome}
+use Rattle.planner.specs.declared.Asked.{Asked}
+use Rattle.planner.specs.declared.Asked.the-variants.{Refused, Fine}
 use Rattle.planner.specs.declared.Planned.{Planned}
+use Rattle.planner.specs.declared.SetUp.{SetUp}
 use Rattle.planner.specs.declared.Verdict.{Verdict}
 use Rattle.planner.specs.declared.Verdict.the-variants.{Found, NoPlan, Stopped, BadSheet, BadSetting, FewCells}
-use Rattle.planner.specs.declared.Verdict.the-variants.{FewWords, BadChannels, BadList}
+use Rattle.planner.specs.declared.Verdict.the-variants.{FewWords, BadChannels, BadList, FewCounts}
 
 -- the paper's number for each verdict: "100 for found, 101 for no plan, 102 for stopped", or the cause
 abbrev pub verdictNumber : Verdict → ℕ
@@ -33,6 +38,7 @@ verdictNumber FewCells = 10
 verdictNumber FewWords = 11
 verdictNumber BadChannels = 17
 verdictNumber BadList = 12
+verdictNumber FewCounts = 19
 
 -- the answer r and the cells that are left are those of an outcome
 pub record Gives (o : Outcome) (r : Planned) (left : List ℕ) : Type 0 where
@@ -54,15 +60,33 @@ Checking job cells a = checkNumber a ≡ checked job cells
 abbrev pub gave : Planned → List ℕ → Outcome
 gave r cells = record { answer = verdictNumber (r .verdict); nodes = r .nodes; cells = cells }
 
--- causes 1 to 11, 16 and 17 are passed, the cells are zero, and there is room for a class a vertex and a vertex a class
-pub record Ready (job : Job) (x : Setting) (built chosen : ℕ) (cells : List ℕ) (work : ℕ) : Type 0 where
+-- causes 1 to 11, 16 and 17 are passed, but for the number of cells, in a call with w work words
+pub record Passed (job : Job) (x : Setting) (w : ℕ) : Type 0 where
   pub sheet : refusal (job .sheet) ≡ 0
   pub setting : settingOk x ≡ true
-  pub enough : kOf (job .sheet) ≤ length cells
-  pub words : workWords ≤ work
+  pub words : workWords ≤ w
   pub channels : channelsOk (job .channels) ≡ true
+
+-- what those causes say of a call with m plan cells and w work words, whatever the caller's list and whether or not
+-- counts are asked for: the number of the first, or that all are passed
+abbrev pub FirstCause : Job → Options → ℕ → ℕ → Asked → Type 0
+FirstCause job options m w (Refused v) = (0 < verdictNumber v)
+    × ((on : Bool) (callers : List ℕ) → callRefusal job (settingWith on options callers) m w ≡ verdictNumber v)
+FirstCause job options m w Fine = (kOf (job .sheet) ≤ m)
+    × ((on : Bool) (callers : List ℕ) → Passed job (settingWith on options callers) w)
+
+-- the words are laid out and filled, as `Filled` says
+pub record Prepared (job : Job) (options : Options) (callers : List ℕ) (w : ℕ) (work : List ℕ) (r : SetUp) : Type 0 where
+  pub laid : LaidOut (r .place) (r .layers) w
+  pub freqs : r .place .n ≡ nOf (job .sheet)
+  pub links : r .place .k ≡ kOf (job .sheet)
+  pub filled : (on : Bool) → Filled job (settingWith on options callers) (r .place) (r .layers) work (r .listed)
+
+-- the causes but for the caller's list are passed, the cells are zero, and there is room for a vertex a class
+pub record Ready (job : Job) (x : Setting) (chosen : ℕ) (cells : List ℕ) (work : ℕ) : Type 0 where
+  pub passed : Passed job x work
+  pub enough : kOf (job .sheet) ≤ length cells
   pub zero : cells ≡ zeros (length cells)
-  pub classes : built ≡ nOf (job .sheet)
   pub vertices : chosen ≡ kOf (job .sheet)
 
 -- a search's outcome was handed on: its number, its nodes and the cells, of which there are m

@@ -4,6 +4,8 @@ pub mod First
 pub mod Setting
 pub mod Limit
 pub mod Walk
+pub mod After
 pub mod Outcomes
+pub mod Parts
 pub mod Steps
 pub mod Rooted

@@ -1,10 +1,11 @@
 // The search of a setting, from the root: "Fewer than k non-empty classes: no plan, 0 nodes", and "A link left empty
 // gives no plan with 0 nodes"; then the pre-filter as switched, then the root.
+ghost use mathlib.Core.Bool.{false};
 ghost use lib.ListN.{length};
 ghost use Rattle.cliques.specs.Words.{Room, withMasks, threeRows};
 ghost use Rattle.search.specs.Limit.{none};
-ghost use Rattle.search.specs.Walk.{Tells, Space};
-ghost use Rattle.search.specs.Searched.{NoneEmpty, Searched, PreSearched};
+ghost use Rattle.search.specs.Walk.{reach, Tells, Space};
+ghost use Rattle.search.specs.Searched.{NoneEmpty, Opened, Searched};
 use crate::RunOutcome;
 use crate::RunVerdict;
 use crate::run;
@@ -13,7 +14,7 @@ use filters::is_open;
 use filters::pre_filter;
 
 // No plan, and no node.
-fn no_nodes() -> RunOutcome
+pub fn no_nodes() -> RunOutcome
     ensures { λ r. ⌜ Tells r (none 0) ⌝ }
 {
     RunOutcome {
@@ -41,20 +42,18 @@ fn none_empty(part: &[u64], place: Place, layers: usize) -> bool
     is_open(part, place, 0)
 }
 
-// The pre-filter, then the root.
-fn after_pre_filter(
-    part: &mut [u64],
-    chosen: &mut [u32],
-    place: Place,
-    layers: usize,
-    limit: u32,
-    filters: u32,
-) -> RunOutcome
-    requires { ⌜ Space place 0 0 limit (length (now part)) (length (now chosen))
+// Whether the root is to be entered. Then its live set, after the pre-filter as switched, is the first row of the part.
+pub fn open_root(part: &mut [u64], place: Place, layers: usize, filters: u32) -> bool
+    requires { ⌜ Room (reach place 0) place (length (now part))
         × Room (threeRows place) (withMasks place layers) (length (now part)) ⌝ }
-    ensures { λ r. ⌜ PreSearched filters place layers limit
-        (now (part .entry)) (now (part .exit)) (now (chosen .entry)) (now (chosen .exit)) r ⌝ }
+    ensures { λ r. ⌜ Opened filters place layers (now (part .entry)) (now (part .exit)) r ⌝ }
 {
+    if !none_empty(part, place, layers) {
+        return false;
+    }
+    if filters % 2 == 0 {
+        return true;
+    }
     let by_layers = Place {
         w: place.w,
         masks: layers,
@@ -63,15 +62,12 @@ fn after_pre_filter(
         k: place.k,
     };
     if !pre_filter(part, by_layers) {
-        return no_nodes();
+        return false;
     }
-    if !is_open(part, place, 0) {
-        return no_nodes();
-    }
-    run(part, chosen, place, limit, filters)
+    is_open(part, place, 0)
 }
 
-// Searches the tree of a setting. The layers' masks stand from `layers` on.
+// Searches the tree of a setting until the first plan. The layers' masks stand from `layers` on.
 pub fn search_setting(
     part: &mut [u64],
     chosen: &mut [u32],
@@ -82,14 +78,11 @@ pub fn search_setting(
 ) -> RunOutcome
     requires { ⌜ Space place 0 0 limit (length (now part)) (length (now chosen))
         × Room (threeRows place) (withMasks place layers) (length (now part)) ⌝ }
-    ensures { λ r. ⌜ Searched filters place layers limit
+    ensures { λ r. ⌜ Searched false filters place layers limit
         (now (part .entry)) (now (part .exit)) (now (chosen .entry)) (now (chosen .exit)) r ⌝ }
 {
-    if !none_empty(part, place, layers) {
+    if !open_root(part, place, layers, filters) {
         return no_nodes();
-    }
-    if filters % 2 == 1 {
-        return after_pre_filter(part, chosen, place, layers, limit, filters);
     }
     run(part, chosen, place, limit, filters)
 }

@@ -2,12 +2,12 @@
 use mathlib.Core.Path.{_≡_, refl, sym, _∙_}
 use mathlib.Core.Bool.{Bool, true, false, not, _&&_, _||_}
 use mathlib.Core.Logic.{_⊎_, inl, inr}
-use Prim.Native.Nat.{ℕ, zero, suc, _+_, _≤_, _<_}
+use Prim.Native.Nat.{ℕ, zero, suc, _+_, _-_, _≤_, _<_}
 use native.Mathlib.Nat.{add-zero, add-suc}
 use native.Mathlib.Numerals.{add-one}
 use native.Mathlib.Omega.{arith}
-use borrow.Author.Tests.{not-true, not-false, eqb-true, eq-eqb, lt-ltb, le-ltb}
-use lib.Dec.{eqb, ltb}
+use borrow.Author.Tests.{not-true, not-false, eqb-true, eq-eqb, lt-ltb, le-ltb, leb-true, leb-false}
+use lib.Dec.{eqb, ltb, leb}
 use Rattle.sets.specs.Below.{all, any, first, sumTo, one, count, loop, replace}
 use Rattle.sets.proofs.Tests.{clash, bool, case, is-false, iff, and-l, and-r, and-in, or-l, or-r, or-case, below}
 
@@ -154,6 +154,39 @@ unfolding sumTo
 sum-in zero i f h = absurd (omega arith)
 sum-in (suc m) i f h = below i m h (λ l. omega (arith, sum-in m i f l)) (λ q. rw q (omega arith))
 
+pub sum-same : (m : ℕ) (f g : ℕ → ℕ) → ((i : ℕ) → i < m → f i ≡ g i) → sumTo m f ≡ sumTo m g
+unfolding sumTo
+sum-same zero f g h = refl
+sum-same (suc m) f g h = rw (sum-same m f g (λ i l. h i (omega arith)), h m (omega arith))
+
+pub sum-zero : (m : ℕ) (f : ℕ → ℕ) → ((i : ℕ) → i < m → f i ≡ 0) → sumTo m f ≡ 0
+unfolding sumTo
+sum-zero zero f h = refl
+sum-zero (suc m) f h = rw (sum-zero m f (λ i l. h i (omega arith)), h m (omega arith)) refl
+
+pub sum-both : (m : ℕ) (f g : ℕ → ℕ) → sumTo m (λ i. f i + g i) ≡ sumTo m f + sumTo m g
+unfolding sumTo
+sum-both zero f g = refl
+sum-both (suc m) f g = omega (arith, sum-both m f g)
+
+pub sum-swap : (m n : ℕ) (h : ℕ → ℕ → ℕ) → sumTo m (λ i. sumTo n (h i)) ≡ sumTo n (λ j. sumTo m (λ i. h i j))
+unfolding sumTo
+sum-swap zero n h = sym (sum-zero n (λ j. 0) (λ i l. refl))
+sum-swap (suc m) n h = let r = sum-swap m n h in let s = sum-both n (λ j. sumTo m (λ i. h i j)) (h m) in omega arith
+
+pub sum-mono : (m : ℕ) (f g : ℕ → ℕ) → ((i : ℕ) → i < m → f i ≤ g i) → sumTo m f ≤ sumTo m g
+unfolding sumTo
+sum-mono zero f g h = omega arith
+sum-mono (suc m) f g h = let r = sum-mono m f g (λ i l. h i (omega arith)) in let q = h m (omega arith) in omega arith
+
+-- one of the numbers, and the others
+pub sum-without : (m i : ℕ) (f g : ℕ → ℕ) → i < m → g i ≡ 0 → ((j : ℕ) → j < m → (j ≡ i → ⊥) → f j ≡ g j) → sumTo m f ≡ f i + sumTo m g
+unfolding sumTo
+sum-without zero i f g l z h = absurd (omega arith)
+sum-without (suc m) i f g l z h = below i m l
+    (λ a. let r = sum-without m i f g a z (λ j b. h j (omega arith)) in let q = h m (omega arith) (λ e. omega arith) in omega arith)
+    (λ e. let r = sum-same m f g (λ j b. h j (omega arith) (λ q. omega arith)) in let q : g m ≡ 0 = rw e at z in rw e (omega arith))
+
 -- counts
 
 pub one-mono : (a b : Bool) → (a ≡ true → b ≡ true) → one a ≤ one b
@@ -202,6 +235,35 @@ count-none (suc m) p f = rw (is-false (p m) (f m (omega arith)), count-none m p 
 
 pub count-any : (m : ℕ) (p : ℕ → Bool) → 0 < count m p → any m p ≡ true
 count-any m p h = bool (any m p) (λ e. e) (λ e. absurd (omega (arith, count-none m p (any-no m p e))))
+
+-- a set within m numbers from a on has at most m members
+pub count-within : (n a m : ℕ) (p : ℕ → Bool) → ((v : ℕ) → v < n → p v ≡ true → (a ≤ v) × (v < a + m))
+    → (count n p ≤ m) × (count n p ≤ n - a)
+unfolding count
+count-within zero a m p h = (omega arith, omega arith)
+count-within (suc n) a m p h =
+    let r = count-within n a m p (λ v l. h v (omega arith)) in
+    bool (p n)
+    (λ e. let w = h n (omega arith) e in let o : one (p n) ≡ 1 = rw e refl in (omega arith, omega arith))
+    (λ e. let o : one (p n) ≡ 0 = rw e refl in (omega arith, omega arith))
+
+-- a set with all of these numbers has at least m
+count-least : (n a m : ℕ) (p : ℕ → Bool) → a + m ≤ n → ((v : ℕ) → a ≤ v → v < a + m → p v ≡ true)
+    → m ≤ count n p
+unfolding count
+count-least zero a m p l h = omega arith
+count-least (suc n) a zero p l h = omega arith
+count-least (suc n) a (suc m) p l h = bool (leb (a + suc m) n)
+    (λ e. omega (arith, count-least n a (suc m) p (leb-true (a + suc m) n e) h))
+    (λ e. let g = leb-false (a + suc m) n e in
+    let o : one (p n) ≡ 1 = rw (h n (omega arith) (omega arith)) refl in
+    omega (arith, count-least n a m p (omega arith) (λ v b c. h v b (omega arith))))
+
+-- just m
+pub count-just : (n a m : ℕ) (p : ℕ → Bool) → a + m ≤ n
+    → ((v : ℕ) → v < n → p v ≡ true → (a ≤ v) × (v < a + m)) → ((v : ℕ) → a ≤ v → v < a + m → p v ≡ true)
+    → count n p ≡ m
+count-just n a m p l h g = omega (arith, count-within n a m p h .0, count-least n a m p l g)
 
 -- loops
 

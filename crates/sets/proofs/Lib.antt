@@ -3,3 +3,4 @@ pub mod Below
 pub mod Sets
 pub mod Pigeon
 pub mod Lists
+pub mod Choices

@@ -29,6 +29,11 @@ abbrev pub one : Bool → ℕ
 one true = 1
 one false = 0
 
+-- x where the test holds, 0 where not
+abbrev pub given : Bool → ℕ → ℕ
+given true x = x
+given false x = 0
+
 -- how many numbers below m the test holds at
 unfoldable pub count : ℕ → (ℕ → Bool) → ℕ
 count zero p = 0

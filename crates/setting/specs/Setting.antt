@@ -1,25 +1,34 @@
 -- The setting of a planning call, and its range.
-use mathlib.Core.Bool.{Bool, _&&_}
+use mathlib.Core.Bool.{Bool, true, false, _&&_}
 use mathlib.Core.List.{List}
 use Prim.Native.Nat.{ℕ}
 use lib.Dec.{ltb, leb}
 use Rattle.setting.specs.declared.Options.{Options}
 
--- filter number, partition choice, limit on the nodes, and the caller's list of classes
+-- filter number, partition choice, limit on the nodes, the caller's list of classes, and whether the run is asked for the
+-- plans left for each frequency
 pub record Setting : Type 0 where
   pub filter : ℕ
   pub choice : ℕ
   pub limit : ℕ
   pub callers : List ℕ
+  pub counts : Bool
 
--- the code's numbers with the caller's list
-abbrev pub settingOf : Options → List ℕ → Setting
-settingOf options callers = record {
+-- the code's numbers with the caller's list, of a run until the first plan; and of one that is asked for counts
+abbrev pub settingWith : Bool → Options → List ℕ → Setting
+settingWith counts options callers = record {
   filter = options .filter;
   choice = options .choice;
   limit = options .limit;
   callers = callers;
+  counts = counts;
 }
+
+abbrev pub settingOf : Options → List ℕ → Setting
+settingOf = settingWith false
+
+abbrev pub countingOf : Options → List ℕ → Setting
+countingOf = settingWith true
 
 abbrev pub mostNodes : ℕ
 mostNodes = 1000000000

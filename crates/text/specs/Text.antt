@@ -37,7 +37,7 @@ printedOf k o = elim (eqb (o .answer) 100) [
 
 -- "The program reads a sheet from standard input, runs filter 7, choice 0, limit 1,000,000"
 abbrev pub programSetting : Setting
-programSetting = record { filter = 7; choice = 0; limit = 1000000; callers = [] }
+programSetting = record { filter = 7; choice = 0; limit = 1000000; callers = []; counts = false }
 
 -- with a plan cell for each of the most links, and as many work words as are needed
 unfoldable pub printed : List ℕ → List ℕ

@@ -10,12 +10,11 @@ use Rattle.sets.specs.Sets.{Set, _∩_}
 use Rattle.sets.proofs.Tests.{case}
 use Rattle.sets.proofs.Below.{count-mono}
 use Rattle.sets.proofs.Sets.{meet-r}
-use Rattle.cliques.specs.Graph.{Graph, inClass, isOpen, noneEmpty}
+use Rattle.cliques.specs.Graph.{Graph, inClass, isOpen}
 use Rattle.filters.specs.Promise.{Filter}
-use Rattle.filters.specs.PreFilter.{preFilter}
-use Rattle.filters.specs.Switches.{switched, atNode}
-use Rattle.search.specs.Tree.{Tree, found, noPlan, nodes, plus, choose, inTurn, node}
-use Rattle.search.specs.Setting.{root, tree}
+use Rattle.filters.specs.Switches.{atNode}
+use Rattle.search.specs.Tree.{Tree, found, noPlan, nodes, plus, choose, andThen, inTurn, node}
+use Rattle.search.specs.Setting.{root, rootSet, entered, tree}
 use Rattle.search.proofs.Tree.{more}
 use Rattle.tree_size.specs.Size.{full}
 
@@ -59,18 +58,19 @@ at-most-choose s d v (noPlan t) h = h
 -- one more vertex
 at-most-more : (c s : ℕ) (a : Tree) (p : Bool) (x : Tree) → AtMost (c * s) a → (p ≡ true → AtMost s x)
     → AtMost ((one p + c) * s) (more a p x)
-unfolding plus
-at-most-more c s (found e t) p x h f = omega arith
+unfolding plus andThen
+at-most-more c s (found e t) true x h f = omega arith
+at-most-more c s (found e t) false x h f = omega arith
 at-most-more c s (noPlan t) true (found e u) h f = let g = f refl in omega arith
 at-most-more c s (noPlan t) true (noPlan u) h f = let g = f refl in omega arith
 at-most-more c s (noPlan t) false x h f = omega arith
 
 in-turn-at-most : (s : ℕ) (f : ℕ → Tree) (p : Set) (m : ℕ) → ((v : ℕ) → AtMost s (f v))
-    → AtMost (count m p * s) (inTurn f p m)
+    → AtMost (count m p * s) (inTurn false f p m)
 unfolding inTurn count
 in-turn-at-most s f p zero h = omega arith
 in-turn-at-most s f p (suc m) h =
-    at-most-more (count m p) s (inTurn f p m) (p m) (f m) (in-turn-at-most s f p m h) (λ _. h m)
+    at-most-more (count m p) s (inTurn false f p m) (p m) (f m) (in-turn-at-most s f p m h) (λ _. h m)
 
 module _ (G : Graph) (m : ℕ) (few : (c : ℕ) → count (G .n) (λ v. eqb (G .cls v) c) ≤ m) where
   open Graph G using (n, k, cls, adj)
@@ -82,7 +82,7 @@ module _ (G : Graph) (m : ℕ) (few : (c : ℕ) → count (G .n) (λ v. eqb (G .
       omega (arith, few c)
 
   -- with r classes to come, whatever the filter strikes
-  pub node-at-most : (F : Filter) (r d : ℕ) (L : Set) → AtMost (full m r) (node G F r d L)
+  pub node-at-most : (F : Filter) (r d : ℕ) (L : Set) → AtMost (full m r) (node false G F r d L)
   unfolding node
   node-at-most F zero d L = omega arith
   node-at-most F (suc r) d L = case (AtMost (full m (suc r))) (isOpen G d (F d L)) _ _
@@ -93,13 +93,9 @@ module _ (G : Graph) (m : ℕ) (few : (c : ℕ) → count (G .n) (λ v. eqb (G .
       (λ o. omega (arith, full-more m r))
     where
       turn : Tree
-      turn = inTurn (λ v. choose d v (node G F r (suc d) (F d L ∩ adj v))) (inClass G d (F d L)) n
+      turn = inTurn false (λ v. choose d v (node false G F r (suc d) (F d L ∩ adj v))) (inClass G d (F d L)) n
 
-  pub tree-at-most : (f : ℕ) (lay : ℕ → ℕ) (L : Set) → AtMost (full m k) (tree f G lay L)
+  pub tree-at-most : (f : ℕ) (lay : ℕ → ℕ) (L : Set) → AtMost (full m k) (tree false f G lay L)
   unfolding tree root
-  tree-at-most f lay L = case (AtMost (full m k)) (noneEmpty G lay L) _ _
-      (λ o. case (AtMost (full m k)) (switched f 1) _ _
-      (λ e. case (AtMost (full m k)) (noneEmpty G lay (preFilter G lay L)) _ _
-      (λ q. node-at-most (atNode f G) k 0 (preFilter G lay L)) (λ q. omega arith))
-      (λ e. node-at-most (atNode f G) k 0 L))
-      (λ o. omega arith)
+  tree-at-most f lay L = case (AtMost (full m k)) (entered f G lay L) _ _
+      (λ o. node-at-most (atNode f G) k 0 (rootSet f G lay L)) (λ o. omega arith)

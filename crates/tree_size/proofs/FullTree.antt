@@ -10,17 +10,17 @@ use borrow.Author.Tests.{eqb-true, eqb-false, ltb-true, ltb-false, eq-eqb, ne-eq
 use Rattle.sets.specs.Below.{any, first, count}
 use Rattle.sets.specs.Sets.{Set, _∩_, whole}
 use Rattle.sets.proofs.Tests.{clash, bool, case, is-false, below, and-in}
-use Rattle.sets.proofs.Below.{first-lt, first-is, first-least}
+use Rattle.sets.proofs.Below.{first-lt, first-is, first-least, count-just}
 use Rattle.sets.proofs.Sets.{meet-r, meet-in}
-use Rattle.cliques.specs.Graph.{Graph, At, inClass, some, isOpen, layered, noneEmpty}
+use Rattle.cliques.specs.Graph.{Graph, At, inClass, some, isOpen, layered}
 use Rattle.cliques.proofs.Graph.{class-at, at-class, some-in, lower-at, open-in, open-out}
 use Rattle.filters.specs.Promise.{Filter}
 use Rattle.filters.specs.Switches.{idle, on, atNode}
-use Rattle.search.specs.Setting.{root, tree}
+use Rattle.search.specs.Setting.{root, rootSet, entered, tree}
 use Rattle.search.specs.Tree.{Tree, choose, inTurn, node}
+use Rattle.search.proofs.Rooted.{entered-plain}
 use Rattle.tree_size.specs.Size.{full}
-use Rattle.tree_size.specs.FullGraph.{FullGraph}
-use Rattle.tree_size.proofs.Counts.{count-just}
+use Rattle.tree_size.proofs.FullGraph.{FullGraph}
 use Rattle.tree_size.proofs.AtMost.{full-one, full-more}
 use Rattle.tree_size.proofs.Takes.{Takes, takes-choose, takes-plus, in-turn-none, in-turn-found}
 
@@ -90,7 +90,7 @@ module _ (G : Graph) (m z x : ℕ) (S : FullGraph G m z x) where
   -- the vertices of a class before the last are tried in turn, all of them; s is what one takes in vain
   tries : (d s : ℕ) (b : Bool) (L : Set) (f : ℕ → Tree) → d < z → Live d b L
       → ((v : ℕ) (c : Bool) → Live (suc d) c (L ∩ adj v) → Takes c s (f v))
-      → Takes b (m * s) (inTurn f (inClass G d L) n)
+      → Takes b (m * s) (inTurn false f (inClass G d L) n)
   tries d s b L f dz l ih = go b l
     where
       p : Set
@@ -132,18 +132,18 @@ module _ (G : Graph) (m z x : ℕ) (S : FullGraph G m z x) where
           (i .0, omega (arith, S .some)))
           (λ v a h. member true l v a (omega arith))
 
-      go : (b : Bool) → Live d b L → Takes b (m * s) (inTurn f p n)
+      go : (b : Bool) → Live d b L → Takes b (m * s) (inTurn false f p n)
       go true l =
           let t = member true l w (omega (arith, S .some)) (omega (arith, S .some)) in
           let i = in-n d w (omega arith) (omega (arith, S .some)) in
           let q : 1 + count w p ≡ m = omega (arith, before l, S .some) in
-          subst (λ q. Takes true (q * s) (inTurn f p n)) q (in-turn-found s f p n w i t (vain l) (found l t))
-      go false l = subst (λ q. Takes false (q * s) (inTurn f p n))
+          subst (λ q. Takes true (q * s) (inTurn false f p n)) q (in-turn-found s f p n w i t (vain l) (found l t))
+      go false l = subst (λ q. Takes false (q * s) (inTurn false f p n))
           (count-just n (d * m) m p (omega (arith, mul-le-mul-right m dz, S .size)) within (member false l))
           (in-turn-none s f p n (λ v h e. ih v false (next l dz v (class-at G d v L h e))))
 
   -- a node of the last class: one node more, if any vertex is live
-  leaf : (d : ℕ) (b : Bool) (L : Set) → d ≡ z → Live d b L → Takes b 1 (node G plain 1 d L)
+  leaf : (d : ℕ) (b : Bool) (L : Set) → d ≡ z → Live d b L → Takes b 1 (node false G plain 1 d L)
   unfolding node some
   leaf d true L e l =
       let y = some-in G z x L (x-at l) in
@@ -153,11 +153,11 @@ module _ (G : Graph) (m z x : ℕ) (S : FullGraph G m z x) where
       (λ o. takes-plus true 0 turn (subst (λ q. Takes true q turn) (omega arith)
       (in-turn-found 0 _ (inClass G d L) n w (first-lt n _ t) (first-is n _ t)
       (λ v h i. clash (inClass G d L v) i (first-least n _ v h))
-      (takes-choose true 0 d w (node G plain 0 (suc d) (L ∩ adj w)) (omega arith)))))
+      (takes-choose true 0 d w (node false G plain 0 (suc d) (L ∩ adj w)) (omega arith)))))
       (λ o. clash (isOpen G d L) (open-in G d L (λ c dc ck. let q : c ≡ z = omega (arith, S .classes) in rw q y)) o)
     where
       turn : Tree
-      turn = inTurn (λ v. choose d v (node G plain 0 (suc d) (L ∩ adj v))) (inClass G d L) n
+      turn = inTurn false (λ v. choose d v (node false G plain 0 (suc d) (L ∩ adj v))) (inClass G d L) n
   leaf d false L e l = case (Takes false 1) (isOpen G d L) _ _
       (λ o. let a = lower-at G z L (open-out G d L o z (omega arith) (omega (arith, S .classes))) in
       clash _ (a .live) (l .none e refl _ (a .lt) (a .cl)))
@@ -165,12 +165,12 @@ module _ (G : Graph) (m z x : ℕ) (S : FullGraph G m z x) where
 
   -- with r classes to come after this one
   live-takes : (r d : ℕ) (b : Bool) (L : Set) → d + r ≡ z → Live d b L
-      → Takes b (full m (suc r)) (node G plain (suc r) d L)
+      → Takes b (full m (suc r)) (node false G plain (suc r) d L)
   unfolding node
   live-takes zero d b L e l =
-      subst (λ q. Takes b q (node G plain 1 d L)) (sym (full-one m)) (leaf d b L (omega arith) l)
+      subst (λ q. Takes b q (node false G plain 1 d L)) (sym (full-one m)) (leaf d b L (omega arith) l)
   live-takes (suc r) d b L e l =
-      subst (λ q. Takes b q (node G plain (suc (suc r)) d L)) (sym (full-more m (suc r)))
+      subst (λ q. Takes b q (node false G plain (suc (suc r)) d L)) (sym (full-more m (suc r)))
       (case (Takes b (1 + m * full m (suc r))) (isOpen G d L) _ _
       (λ o. takes-plus b _ _ (tries d (full m (suc r)) b L _ (omega arith) l
       (λ v c i. takes-choose c _ d v _ (live-takes r (suc d) c (L ∩ adj v) (omega arith) i))))
@@ -194,9 +194,10 @@ module _ (G : Graph) (m z x : ℕ) (S : FullGraph G m z x) where
 
 -- under filter 0
 pub tree-takes : (G : Graph) (m z x : ℕ) → FullGraph G m z x → (lay : ℕ → ℕ) → FullGraph (layered G lay) m z x
-    → Takes true (full m (G .k)) (tree 0 G lay (whole (G .n)))
-unfolding tree root atNode on idle
-tree-takes G m z x S lay T = case (Takes true (full m (G .k))) (noneEmpty G lay (whole (G .n))) _ _
-    (λ o. subst (λ j. Takes true (full m j) (node G (atNode 0 G) j 0 (whole (G .n)))) (sym (S .classes))
+    → Takes true (full m (G .k)) (tree false 0 G lay (whole (G .n)))
+unfolding tree root rootSet atNode on idle
+tree-takes G m z x S lay T = case (Takes true (full m (G .k))) (entered 0 G lay (whole (G .n))) _ _
+    (λ o. subst (λ j. Takes true (full m j) (node false G (atNode 0 G) j 0 (whole (G .n)))) (sym (S .classes))
     (live-takes G m z x S z 0 true (whole (G .n)) (omega arith) (all-live G m z x S)))
-    (λ o. clash (noneEmpty G lay (whole (G .n))) (and-in (all-open (layered G lay) m z x T) (all-open G m z x S)) o)
+    (λ o. clash (entered 0 G lay (whole (G .n))) (entered-plain 0 G lay (whole (G .n))
+    (and-in (all-open (layered G lay) m z x T) (all-open G m z x S)) refl) o)

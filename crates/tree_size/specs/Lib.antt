@@ -1,4 +1,3 @@
 pub mod Size
 pub mod Known
-pub mod FullGraph
 pub mod TreeSizes
