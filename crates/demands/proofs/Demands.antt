@@ -186,7 +186,7 @@ module _ (job : Job) (x : Setting) (m w : ℕ) (C : Call job x m w) where
   unfolding treeOf classesOf
   trees-le filter a = tree-le G (layer job) L left (x .counts) (x .counts) (λ h. h) filter (x .filter) a
 
-same-told : (job : Job) (m : ℕ) (a′ a : Answer) → Follows a′ a → (outcomeOf job m a .answer ≡ 102 → ⊥)
+pub same-told : (job : Job) (m : ℕ) (a′ a : Answer) → Follows a′ a → (outcomeOf job m a .answer ≡ 102 → ⊥)
     → (outcomeOf job m a′ .answer ≡ outcomeOf job m a .answer) × (outcomeOf job m a′ .cells ≡ outcomeOf job m a .cells)
 same-told job m (plan e t) (plan c u) f n = (refl, ap (λ p. planCells job p m) (f .0))
 same-told job m (plan e t) (none u) f n = absurd f

@@ -221,6 +221,17 @@ module _ (job : Job) (ok : refusal (job .sheet) ≡ 0) where
       → vertices job (λ l. freq (freqPart s) (c l)) l ≡ c l
   vertices-same c p l h = there-back P c (on-sheet p) l h
 
+  -- the vertex of a vertex's frequency is that vertex
+  pub vertex-same : (l v : ℕ) → l < kOf s → v < nOf s → linkOf job v ≡ l
+      → vertexOf s (freqPart s) l (freq (freqPart s) v) ≡ v
+  vertex-same l v h a e = vertex-back P l v h (rw e at (layer-in s (kOf s) (nOf s) (P .links) v a .1)) .0
+
+  -- the assignment of a clique listed by link keeps every rule
+  pub clique-rules : (c : ℕ → ℕ) → Clique (graphOf job (linkOf job)) 0 (unstruck job) c
+      → KeepsEveryRule job (λ l. freq (freqPart s) (c l))
+  unfolding keepsJob keepsSheet
+  clique-rules c p = and-in (all-clear p) (clique-keeps P c (on-sheet p))
+
   -- only the first k entries of an assignment are read
   pub keeps-same-job : (f g : ℕ → ℕ) → ((l : ℕ) → l < kOf s → f l ≡ g l) → keepsJob job f ≡ keepsJob job g
   unfolding keepsJob keepsSheet clear
@@ -231,9 +242,8 @@ module _ (job : Job) (ok : refusal (job .sheet) ≡ 0) where
   keeps-first-k f g h K = sym (keeps-same-job f g h) ∙ K
 
   pub matches : Matches job
-  unfolding keepsJob keepsSheet
   matches = record {
-    there = λ c p. let q = listed c p in and-in (all-clear q) (clique-keeps P (by c) (on-sheet q));
+    there = λ c p. clique-rules (by c) (listed c p);
     back = λ f K. any-order (vertices job f) (vertices-clique f K);
     there-back = λ c p j l.
         let m = law .few (c j) (p .lt j l) (p .live j l) in

@@ -110,10 +110,10 @@ module _ {job : Job} {x : Setting} {place : Place} {layers : ℕ} {p p′ c c′
   abbrev cls : ℕ → ℕ
   cls = unlessStruck job (classOf (classesOf job x))
 
-  yes : r ≡ true
+  pub yes : r ≡ true
   yes = not-false r e
 
-  tells : Tells out (answer (x .limit) (treeOf job x))
+  pub tells : Tells out (answer (x .limit) (treeOf job x))
   unfolding treeOf
   tells = subst (λ L. Tells out (answer (x .limit) (tree (x .counts) (x .filter) (graphIn job x) (layer job) L))) (F .root yes)
       (S .says (graphIn job x) (layer job) (F .by-class yes) (F .by-layer yes))

@@ -14,7 +14,7 @@ pub record Setting : Type 0 where
   pub callers : List ℕ
   pub counts : Bool
 
--- the code's numbers with the caller's list, of a run until the first plan; and of one that is asked for counts
+-- the code's numbers with the caller's list; of a run until the first plan
 abbrev pub settingWith : Bool → Options → List ℕ → Setting
 settingWith counts options callers = record {
   filter = options .filter;
@@ -27,8 +27,15 @@ settingWith counts options callers = record {
 abbrev pub settingOf : Options → List ℕ → Setting
 settingOf = settingWith false
 
-abbrev pub countingOf : Options → List ℕ → Setting
-countingOf = settingWith true
+-- the same setting, of a run that is asked for counts
+abbrev pub counting : Setting → Setting
+counting x = record {
+  filter = x .filter;
+  choice = x .choice;
+  limit = x .limit;
+  callers = x .callers;
+  counts = true;
+}
 
 abbrev pub mostNodes : ℕ
 mostNodes = 1000000000

@@ -36,9 +36,11 @@ returns c =
 returns-2 : tie.Need-returns-2
 returns-2 c =
     let r = c .before in
-    let s = r .before .before .before .before .before .before in
-    (lit< tt, λ on callers. cause-9 (job s) (settingWith on (s .args .options) callers) (s .args .cells) (s .args .words)
-    (fine (r .before)) (sym (r .is-in-range .ensures) ∙ not-true (r .is-in-range .result) (c .if1 .taken)))
+    let s = r .before .before .before .before .before .before in (
+      lit< tt,
+      λ on callers. cause-9 (job s) (settingWith on (s .args .options) callers) (s .args .cells) (s .args .words)
+          (fine (r .before)) (sym (r .is-in-range .ensures) ∙ not-true (r .is-in-range .result) (c .if1 .taken)),
+    )
 
 links-of-requires : tie.Need-links-of-requires
 links-of-requires c κs = accepted _ (fine (c .before .before)) .head .long
@@ -47,18 +49,22 @@ returns-3 : tie.Need-returns-3
 returns-3 c =
     let l = c .before in
     let i = l .before in
-    let s = i .before .before .before .before .before .before .before in
-    (lit< tt, λ on callers. cause-10 (job s) (settingWith on (s .args .options) callers) (s .args .cells) (s .args .words)
-    (fine (i .before .before)) (okay i) (omega (arith, l .links-of .ensures .0, c .if2 .taken)))
+    let s = i .before .before .before .before .before .before .before in (
+      lit< tt,
+      λ on callers. cause-10 (job s) (settingWith on (s .args .options) callers) (s .args .cells) (s .args .words)
+          (fine (i .before .before)) (okay i) (omega (arith, l .links-of .ensures .0, c .if2 .taken)),
+    )
 
 returns-4 : tie.Need-returns-4
 returns-4 c =
     let e = c .before in
     let l = e .before in
     let i = l .before in
-    let s = i .before .before .before .before .before .before .before in
-    (lit< tt, λ on callers. cause-11 (job s) (settingWith on (s .args .options) callers) (s .args .cells) (s .args .words)
-    (fine (i .before .before)) (okay i) (omega (arith, l .links-of .ensures .0, e .if2 .left)) (c .if3 .taken))
+    let s = i .before .before .before .before .before .before .before in (
+      lit< tt,
+      λ on callers. cause-11 (job s) (settingWith on (s .args .options) callers) (s .args .cells) (s .args .words)
+          (fine (i .before .before)) (okay i) (omega (arith, l .links-of .ensures .0, e .if2 .left)) (c .if3 .taken),
+    )
 
 returns-5 : tie.Need-returns-5
 returns-5 c =
@@ -67,10 +73,12 @@ returns-5 c =
     let e = w .before in
     let l = e .before in
     let i = l .before in
-    let s = i .before .before .before .before .before .before .before in
-    (lit< tt, λ on callers. cause-17 (job s) (settingWith on (s .args .options) callers) (s .args .cells) (s .args .words)
-    (fine (i .before .before)) (okay i) (omega (arith, l .links-of .ensures .0, e .if2 .left)) (w .if3 .left)
-    (sym (t .is-channel-list .ensures) ∙ not-true (t .is-channel-list .result) (c .if4 .taken)))
+    let s = i .before .before .before .before .before .before .before in (
+      lit< tt,
+      λ on callers. cause-17 (job s) (settingWith on (s .args .options) callers) (s .args .cells) (s .args .words)
+          (fine (i .before .before)) (okay i) (omega (arith, l .links-of .ensures .0, e .if2 .left)) (w .if3 .left)
+          (sym (t .is-channel-list .ensures) ∙ not-true (t .is-channel-list .result) (c .if4 .taken)),
+    )
 
 returns-6 : tie.Need-returns-6
 returns-6 c =
@@ -78,8 +86,7 @@ returns-6 c =
     let w = t .before in
     let e = w .before in
     let l = e .before in
-    let i = l .before in
-    (
+    let i = l .before in (
       omega (arith, l .links-of .ensures .0, e .if2 .left),
       λ on callers. record {
         sheet = fine (i .before .before);

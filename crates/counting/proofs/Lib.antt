@@ -1,0 +1,4 @@
+pub mod Counts
+pub mod Outcomes
+pub mod Tellings
+pub mod PlansLeft

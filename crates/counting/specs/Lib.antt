@@ -1,0 +1,4 @@
+pub mod Plans
+pub mod Outcome
+pub mod Kept
+pub mod PlansLeft
