@@ -70,7 +70,7 @@ def summary(job, answer):
     """How many frequencies are in no plan, and in every one."""
     total, every = plans(answer), [count for listed in answer.counts for count in listed]
     taken, unused, settled = sum(map(len, air.struck(job.sheet, job.channels))), every.count(0), every.count(total)
-    on_air = f", {taken} of them on air" if taken else ""
+    on_air = f" ({taken} on air, {unused - taken} dead)" if taken else ""
     return f"{unused} of {len(every)} frequencies in no plan{on_air}; {settled} in every plan"
 
 
