@@ -10,8 +10,8 @@
 
 static const char usage[] =
     "usage: counts SHEET FILTER SECONDS count|plan\n"
-    "Counts the plans of SHEET, or plans it, under FILTER and choice 0, with the largest limit, again and again for SECONDS.\n"
-    "Prints the answer, the nodes and, of counting, the number of plans; then the processor time of one call.\n";
+    "Counts the plans of SHEET, or plans it, under FILTER and choice 0, with the largest limit, repeated for SECONDS.\n"
+    "Prints the answer's number, the nodes and, of counting, the number of plans; then the processor time of one call.\n";
 
 static size_t read_file(const char *path, uint8_t *bytes, size_t most)
 {
@@ -33,7 +33,8 @@ static double processor_time(void)
     return (double)t.tv_sec + 1e-9 * (double)t.tv_nsec;
 }
 
-static uint8_t sheet[GUVTEMI_MOST_SHEET_BYTES + 1], cells[4 * GUVTEMI_MOST_LINKS], counts[GUVTEMI_ENOUGH_PLAN_COUNT_BYTES];
+static uint8_t sheet[GUVTEMI_MOST_SHEET_BYTES + 1], cells[4 * GUVTEMI_MOST_LINKS];
+static uint8_t counts[GUVTEMI_ENOUGH_PLAN_COUNT_BYTES];
 
 static uint64_t call(int counting, size_t length, uint32_t filter)
 {

@@ -1,8 +1,8 @@
-/* Guvtemi's calls for a planner's desk: a job planned and checked with the television channels on air, how many plans use
-   each of its frequencies, the spare spacing of every two links of a plan, a sheet's graph as DIMACS text, a sheet from
-   such a text, and the job that takes the most nodes. Link with target/staticlib/libdesk.a (written by `rt staticlib
-   desk`; x86-64). The numbers of an answer and guvtemi_number, guvtemi_nodes and guvtemi_khz are those of guvtemi.h, which
-   this header includes; the two functions declared there are in libconsole.a.
+/* Guvtemi's calls for a planner's desk: a job planned and checked with the television channels on air, how many plans
+   use each of its frequencies, the spare spacing of every two links of a plan, a sheet's graph as DIMACS text, a sheet
+   from such a text, and the job that takes the most nodes. Link with target/staticlib/libdesk.a (written by
+   `rt staticlib desk`; x86-64). The numbers of an answer and guvtemi_number, guvtemi_nodes and guvtemi_khz are those of
+   guvtemi.h, which this header includes; the two functions declared there are in libconsole.a.
 
    A sheet is bytes as in docs/FORMAT.md, of form 1 or 2. A channel list is bytes too, a channel on air each, 21 to 48,
    strictly rising; channel c covers 470,000 + 8,000(c - 21) kHz up to, but without, 8,000 more. No bytes are no list. The
@@ -29,14 +29,14 @@
 extern "C" {
 #endif
 
-/* Causes of these calls. 1 to 8 and 16 are the sheet's refusals, 9, 10 and 12 those of planning and counting, 10 also of
-   check and spares: README.md lists them. */
+/* Causes of these calls. 1 to 8 and 16 are the sheet's refusals, 9, 10 and 12 those of planning and counting, 10 also
+   of check and spares: README.md lists them. */
 enum {
     GUVTEMI_WRITTEN = 0,       /* export, import and heaviest: no refusal, the outputs hold the result */
     GUVTEMI_MALFORMED = 13,    /* import: a text is malformed, or beyond 64 links or 512 frequencies */
     GUVTEMI_BAD_EDGE = 14,     /* import: an edge inside a link, or repeated either way round */
     GUVTEMI_NO_ROOM = 15,      /* more than 8,192 pairs of kind 3, or an output shorter than what this call writes */
-    GUVTEMI_BAD_CHANNELS = 17, /* plan, count, check, spares: a channel out of 21 to 48, or not above the one before it */
+    GUVTEMI_BAD_CHANNELS = 17, /* plan, count, check, spares: a channel out of 21 to 48, or not above the one before */
     GUVTEMI_BAD_SIZES = 18,    /* heaviest: k or m is 0, k above 64, k x m above 512, or the buffer under 65,536 bytes */
     GUVTEMI_FEW_COUNTS = 19    /* count: room for fewer counts than the sheet has frequencies */
 };
@@ -70,16 +70,15 @@ uint64_t guvtemi_plan_job(const uint8_t *sheet, size_t sheet_len, const uint8_t 
                           uint32_t filter, uint32_t choice, uint32_t limit, const uint8_t *classes, size_t classes_len,
                           uint8_t *cells, size_t cells_len);
 
-/* Plans a sheet with channels on air and counts its plans: how many use each frequency. The search goes on after a plan to
-   the end of its tree; this longer tree is the one whose nodes are reported and held to the limit.
-   channels, filter, choice, limit, classes and cells are as for guvtemi_plan_job. Where this call is not stopped, verdict
-   and plan are those of that call.
-   counts    at least eight bytes a frequency of the sheet, also for a struck one; found fills the first of them, a count
-             for each frequency in the sheet's order, little-endian; every other byte becomes 0, on every answer;
-             guvtemi_plans reads them
+/* Plans a sheet with channels on air and counts its plans: how many use each frequency. The search goes on after a plan
+   to the end of its tree; this longer tree is the one whose nodes are reported and held to the limit. channels, filter,
+   choice, limit, classes and cells are as for guvtemi_plan_job; unless stopped, so are verdict and plan.
+   counts    at least eight bytes a frequency of the sheet, also for a struck one; found fills them with a count for each
+             frequency in the sheet's order, little-endian; every other byte becomes 0, on every answer; guvtemi_plans
+             reads them
    A count is the number of plans with that frequency, whatever filter and choice, and 0 for a struck one; those of a
-   link's frequencies sum to the number of plans, for every link. Without a plan all are 0, with as many nodes as
-   guvtemi_plan_job takes. Stopped leaves counts and cells zero, also where the search has met plans.
+   link's frequencies sum to the number of plans, for every link. Without a plan all are 0, and the nodes are those of
+   guvtemi_plan_job. Stopped leaves counts and cells zero, also where the search has met plans.
    Returns the nodes plus 2^32 times the answer's number: as guvtemi_plan_job, or 19, which comes after 12. */
 uint64_t guvtemi_count_job(const uint8_t *sheet, size_t sheet_len, const uint8_t *channels, size_t channels_len,
                            uint32_t filter, uint32_t choice, uint32_t limit, const uint8_t *classes, size_t classes_len,

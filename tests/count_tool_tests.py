@@ -166,6 +166,28 @@ def _(_):
         need(done.returncode == 2 and "is from before guvtemi_count_job" in done.stderr.decode(), f"an older library: {done.stderr.decode()[:300]}")
 
 
+@test("docs/TEXT.md, docs/FORMAT.md and examples/ show counts as they are")
+def _(_):
+    page = (ROOT / "docs" / "TEXT.md").read_text(encoding="utf-8")
+    said = run(["env", "COLUMNS=120", SHEET, "counts", EXAMPLES / "edges.txt"]).stdout.decode()
+    shown = [block for block in re.findall(r"```text\n(.*?)```", page, re.DOTALL) if "share  of all plans" in block]
+    need(len(shown) == 1, f"docs/TEXT.md shows {len(shown)} tables of counts")
+    begins, ends = shown[0].split("..\n")
+    need(said.startswith(begins) and said.endswith(ends), f"docs/TEXT.md shows other counts than\n{said}")
+    drawn = run([SHEET, "picture", EXAMPLES / "edges.txt", "--counts", "-o", "-"]).stdout
+    need(drawn == (EXAMPLES / "edges-counts.svg").read_bytes(), "tools/sheet picture --counts draws another examples/edges-counts.svg")
+    words = " ".join((EXAMPLES / "README.md").read_text(encoding="utf-8").split())
+    plans = [run([SHEET, "counts", EXAMPLES / f"{name}.txt"]).stdout.decode().split(": ")[1].split()[0] for name in ("edges", "on-air")]
+    need("The club stage has {} plans, the town square with its channels on air {} ".format(*plans) in words, f"examples/README.md: {plans}")
+    page = (ROOT / "docs" / "FORMAT.md").read_text(encoding="utf-8").split("## The counts of plans")[1]
+    rows = re.findall(r"^\| (\d+) \| ([0-9a-f ]{23}) \| link (\d), (\d+) \| (\d+) \|$", page, re.MULTILINE)
+    _, _, counted_bytes = reading.count_job(encode(samples.M1), b"", 7, 0, 1_000, b"", 8, 32)
+    need(bytes.fromhex("".join(row[1] for row in rows)) == counted_bytes, f"docs/FORMAT.md: {rows}")
+    need([(int(offset) // 8, int(khz), int(count)) for offset, _, _, khz, count in rows] == [(0, 500_000, 0), (1, 500_400, 1), (2, 500_000, 1), (3, 500_300, 0)], f"{rows}")
+    sizes = [reading.counted(reading.Sheet(encode(samples.M1)), filters, 0, 1_000, b"")[1] for filters in range(8)]
+    need(", ".join(map(str, sizes)) + " under filters 0 to 7" in page, f"docs/FORMAT.md: nodes {sizes}")
+
+
 def shades_of(drawn):
     """How many frequencies a picture has of each shade, the legend's left out."""
     return [len(of_class(drawn, "circle", "dead")) - 1] + [len(of_class(drawn, "polyline", f"shade-{number}")) - 1 for number in range(1, 6)]
