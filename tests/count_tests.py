@@ -17,6 +17,7 @@ from harness import EXAMPLES, need, test
 from jobsheet.binary import Sheet, decode, encode
 from library_tests import header_number
 from native import BUILD, ROOT, WARNINGS, run
+from reading_tests import kept
 
 
 def numbers_of(counts):
@@ -135,6 +136,7 @@ def _(args):
     for sheet, channels in [*count_samples.telling_jobs(), *count_samples.small_jobs(rng, max(args.cases // 20, 100))]:
         job, listed = reading.Job(encode(sheet), channels), samples.classes_for(rng, sheet, channels)
         wanted, plans = reading.counts_of(job), reading.plans_of(job)
+        need(list(map(tuple, plans)) == kept(job, channels), f"{len(plans)} plans: {sheet}, {channels}")
         for choice in range(3):
             sizes = {}
             for filters in range(8):
