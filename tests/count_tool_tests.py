@@ -120,13 +120,15 @@ def _(args):
 
 @test("tools/sheet counts: stopped, no plan, links left empty, refusals and wrong limits")
 def _(_):
-    for more, status, told in (([], 0, "531,441 plans in a tree of 797,161 nodes"), (["--limit", "797161"], 0, "531,441 plans"), (["--limit", "797,161"], 0, "531,441 plans"),
+    for more, status, told in (([], 0, "531,441 plans in a tree of 797,161 nodes"), (["--limit", "797161"], 0, "531,441 plans"),
+                               (["--limit", "797,161"], 0, "531,441 plans"),
                                (["--limit", "797160"], 1, "Free links: stopped at 797,160 nodes: the tree is larger than this limit, and no frequency has a count\n"
                                 "Allow more nodes with --limit, up to 1,000,000,000, or count parts of the job"), (["--limit", "1"], 1, "stopped at 1 node: ")):
         done = run([SHEET, "counts", "-", *more], input=FREE.encode())
         said = done.stdout.decode()
         need(done.returncode == status and told in said and ("link  name" in said) == (status == 0), f"{more}: {said[:300]}{done.stderr.decode()}")
-    for job, told in (((EXAMPLES / "no-plan.txt").read_bytes(), "no plan exists ("), (b"job x\nlink A 470.0\nlink B 500.0\nair 21", "A is left without a frequency")):
+    for job, told in (((EXAMPLES / "no-plan.txt").read_bytes(), "no plan exists ("),
+                      (b"job x\nlink A 470.0\nlink B 500.0\nair 21", "A is left without a frequency")):
         done = run([SHEET, "counts", "-"], input=job)
         need(done.returncode == 1 and told in done.stdout.decode() and "link  name" not in done.stdout.decode(), f"{done.stdout.decode()}")
     for sheet in sorted((EXAMPLES / "refused").glob("*.sheet")):
@@ -183,7 +185,8 @@ def _(_):
     rows = re.findall(r"^\| (\d+) \| ([0-9a-f ]{23}) \| link (\d), (\d+) \| (\d+) \|$", page, re.MULTILINE)
     _, _, counted_bytes = reading.count_job(encode(samples.M1), b"", 7, 0, 1_000, b"", 8, 32)
     need(bytes.fromhex("".join(row[1] for row in rows)) == counted_bytes, f"docs/FORMAT.md: {rows}")
-    need([(int(offset) // 8, int(khz), int(count)) for offset, _, _, khz, count in rows] == [(0, 500_000, 0), (1, 500_400, 1), (2, 500_000, 1), (3, 500_300, 0)], f"{rows}")
+    wanted = [(0, 500_000, 0), (8, 500_400, 1), (16, 500_000, 1), (24, 500_300, 0)]
+    need([(int(offset), int(khz), int(count)) for offset, _, _, khz, count in rows] == wanted, f"{rows}")
     sizes = [reading.counted(reading.Sheet(encode(samples.M1)), filters, 0, 1_000, b"")[1] for filters in range(8)]
     need(", ".join(map(str, sizes)) + " under filters 0 to 7" in page, f"docs/FORMAT.md: nodes {sizes}")
 
@@ -220,13 +223,15 @@ def _(args):
     with tempfile.TemporaryDirectory() as folder:
         out = Path(folder) / "out.svg"
         done = run([SHEET, "picture", EXAMPLES / "edges.txt", "--counts", "-o", out])
-        need(done.returncode == 0 and done.stdout.decode() == f"wrote {out}: 4,232 plans in a tree of 14,772 nodes\n", f"{done.stdout.decode()}{done.stderr.decode()}")
+        told = (done.stdout + done.stderr).decode()
+        need(done.returncode == 0 and told == f"wrote {out}: 4,232 plans in a tree of 14,772 nodes\n", told)
         drawn = out.read_text(encoding="utf-8")
         need(shades_of(drawn) == [3, 0, 32, 8, 0, 3], f"{shades_of(drawn)}")
         need("Singer can tune to 606.500 MHz, in 808 of 4,232 plans (19.1%)" in drawn and "Talkback can tune to 620.550 MHz, in no plan" in drawn, "tooltips")
         out.unlink()
         done = run([SHEET, "picture", EXAMPLES / "edges.txt", "--counts", "--limit", "14771", "-o", out])
-        need(done.returncode == 1 and not out.exists() and "stopped at 14,771 nodes" in done.stderr.decode() and "Nothing is drawn" in done.stderr.decode(), "stopped")
+        told = done.stderr.decode()
+        need(done.returncode == 1 and not out.exists() and "stopped at 14,771 nodes" in told and "Nothing is drawn" in told, told)
         done = run([SHEET, "picture", EXAMPLES / "no-plan.txt", "--counts", "-o", out])
         need(done.returncode == 1 and shades_of(out.read_text(encoding="utf-8"))[1:] == [0] * 5, f"no plan: {done.stderr.decode()}")
         done = run([SHEET, "picture", EXAMPLES / "edges.txt", "--limit", "5", "-o", out])
