@@ -116,7 +116,8 @@ def small_jobs(rng, most):
 def length_calls(rng):
     """Room of every length around n counts, for runs that end with and without a plan, or are stopped: (name, number, call)."""
     jobs = [("M1", samples.M1, b"", 3), ("Example 1", samples.EXAMPLE_1, b"", 5), ("Example 3", samples.EXAMPLE_3, b"", None),
-            ("a frequency struck", AIR, b"\x15", 4), ("512 frequencies", Sheet([list(range(1, 513))], []), b"", 513), ("64 links", Sheet(all_different([1] * 64), []), b"", 65)]
+            ("a frequency struck", AIR, b"\x15", 4),
+            ("512 frequencies", Sheet([list(range(1, 513))], []), b"", 513), ("64 links", Sheet(all_different([1] * 64), []), b"", 65)]
     for name, sheet, channels, size in jobs:
         data, enough = encode(sheet), 8 * sheet.frequencies()
         for room in sorted({0, 1, 7, 8, *range(max(enough - 9, 0), enough + 10), 2 * enough, ENOUGH_COUNT_BYTES, ENOUGH_COUNT_BYTES + 5}):

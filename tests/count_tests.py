@@ -144,7 +144,8 @@ def _(args):
                 if number == 12:
                     break
                 first = reading.planned(job, filters, choice, 10**9, listed)
-                need(counts == wanted and (number, plan) == (first[0], first[2]) and (number == reading.FOUND) == bool(plans), f"{counts}, wanted {wanted}: {sheet}")
+                need((counts, number, plan) == (wanted, first[0], first[2]), f"{number}, {plan}, {counts}, wanted {first}, {wanted}: {sheet}")
+                need((number == reading.FOUND) == bool(plans), f"{number} with {len(plans)} plans: {sheet}")
                 need(size == first[1] if not plans else size >= max(first[1], len(plans) + 1), f"{size} nodes, {first[1]} to the first plan: {sheet}")
                 need(all(size <= sizes[less] for less in range(filters) if less & filters == less), f"filter {filters} enlarges the tree: {sheet}, {channels}")
                 for limit in {max(size - 1, 1), max(size, 1)}:
@@ -156,7 +157,8 @@ def _(args):
     for name, sheet, channels, sizes, counts in count_samples.known_counts():
         job = reading.Job(encode(sheet), channels)
         found = [reading.counted(job, filters, 0, 10**9, b"") for filters in range(8)]
-        need([size for _, size, _, _ in found] == sizes and all(one == counts for *_, one in found) and reading.counts_of(job) == counts, f"{name}: {found[0][:2]}")
+        need([size for _, size, _, _ in found] == sizes, f"{name}: nodes {[size for _, size, _, _ in found]}")
+        need(all(one == counts for *_, one in found) and reading.counts_of(job) == counts, f"{name}: other counts")
     return f"{sum(seen.values()):,} runs"
 
 

@@ -122,8 +122,9 @@ def _(args):
 def _(_):
     for more, status, told in (([], 0, "531,441 plans in a tree of 797,161 nodes"), (["--limit", "797161"], 0, "531,441 plans"),
                                (["--limit", "797,161"], 0, "531,441 plans"),
-                               (["--limit", "797160"], 1, "Free links: stopped at 797,160 nodes: the tree is larger than this limit, and no frequency has a count\n"
-                                "Allow more nodes with --limit, up to 1,000,000,000, or count parts of the job"), (["--limit", "1"], 1, "stopped at 1 node: ")):
+                               (["--limit", "797160"], 1, "Free links: stopped at 797,160 nodes: the tree is larger than this limit, "
+                                "and no frequency has a count\nAllow more nodes with --limit, up to 1,000,000,000, or count parts of the job"),
+                               (["--limit", "1"], 1, "stopped at 1 node: ")):
         done = run([SHEET, "counts", "-", *more], input=FREE.encode())
         said = done.stdout.decode()
         need(done.returncode == status and told in said and ("link  name" in said) == (status == 0), f"{more}: {said[:300]}{done.stderr.decode()}")
