@@ -1,5 +1,6 @@
 """Sheets to measure with, each made from a fixed seed."""
 
+import math
 import random
 from dataclasses import dataclass
 
@@ -116,6 +117,45 @@ def drawn(seed, lists, most):
     """So many of the links' pairs, drawn at random and rising."""
     every = [(a, b) for a in range(len(lists)) for b in range(a + 1, len(lists))]
     return sorted(random.Random(seed).sample(every, most))
+
+
+@dataclass
+class CountSample:
+    """A job with many plans, how many, the nodes of the tree in which they are counted, and a job without a plan whose tree is much the same."""
+    name: str
+    sheet: Sheet
+    plans: int
+    nodes: int
+    barred: Sheet
+    filters: tuple
+
+
+def every_other(sizes):
+    """Links of so many frequencies, any two of which go together, and a last one whose one frequency goes with every other frequency of the link
+    before it: under filter 0 every other leaf is a plan. In the job without a plan one more link bars that last frequency: its tree has the same
+    nodes, and a plan's node is closed instead."""
+    first = [sum(sizes[:link]) + 1 for link in range(len(sizes))]
+    lists = [list(range(start, start + size)) for start, size in zip(first, sizes)] + [[sum(sizes) + 1]]
+    last = len(sizes)
+    rules = [Rule(last - 1, last, LISTED, 0, [(p, 0) for p in range(0, sizes[-1], 2)])]
+    barred = Sheet(lists + [[sum(sizes) + 2]], rules + [Rule(last, last + 1, SPACING, MOST_KHZ)])
+    plans = math.prod(sizes) * ((sizes[-1] + 1) // 2) // sizes[-1]
+    nodes = 1 + sum(math.prod(sizes[:depth]) for depth in range(1, last + 1)) + plans
+    name = f"{last + 1} links, {max(sizes)} frequencies each" + (f", {sizes.count(1)} links of one" if 1 in sizes else "") + ", every other leaf a plan"
+    return CountSample(name, Sheet(lists, rules), plans, nodes, barred, (0,))
+
+
+def orders(links):
+    """So many links with as many frequencies, the same for all: the plans are their orders. With one link more there is none."""
+    listed = list(range(1, links + 1))
+    nodes = sum(math.perm(links, depth) for depth in range(links + 1))
+    return CountSample(f"{links} links on {links} frequencies, all different", Sheet([listed] * links, []), math.factorial(links), nodes,
+                       Sheet([listed] * (links + 1), []), (0, 2, 7))
+
+
+def count_samples():
+    """The jobs on which counting is measured, about 10,000,000 nodes each: few links, many, as many as can be, and under filters."""
+    return [every_other([14] * 6), every_other([2] * 22), every_other([1] * 40 + [2] * 22), orders(10)]
 
 
 def text_samples():

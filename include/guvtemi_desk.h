@@ -1,8 +1,8 @@
-/* Guvtemi's calls for a planner's desk: a job planned and checked with the television channels on air, the spare spacing
-   of every two links of a plan, a sheet's graph as DIMACS text, a sheet from such a text, and the job that takes the most
-   nodes. Link with target/staticlib/libdesk.a (written by `rt staticlib desk`; x86-64). The numbers of an answer and
-   guvtemi_number, guvtemi_nodes and guvtemi_khz are those of guvtemi.h, which this header includes; the two functions
-   declared there are in libconsole.a.
+/* Guvtemi's calls for a planner's desk: a job planned and checked with the television channels on air, how many plans
+   use each of its frequencies, the spare spacing of every two links of a plan, a sheet's graph as DIMACS text, a sheet
+   from such a text, and the job that takes the most nodes. Link with target/staticlib/libdesk.a (written by
+   `rt staticlib desk`; x86-64). The numbers of an answer and guvtemi_number, guvtemi_nodes and guvtemi_khz are those of
+   guvtemi.h, which this header includes; the two functions declared there are in libconsole.a.
 
    A sheet is bytes as in docs/FORMAT.md, of form 1 or 2. A channel list is bytes too, a channel on air each, 21 to 48,
    strictly rising; channel c covers 470,000 + 8,000(c - 21) kHz up to, but without, 8,000 more. No bytes are no list. The
@@ -15,7 +15,7 @@
    Everything else is the callee's: every byte sequence and every number gets an answer.
 
    The calls keep nothing between them, so several threads may call at once, each with outputs of its own. A call of
-   guvtemi_plan_job takes up to 240 KiB of stack (docs/ASSURANCE.md). */
+   guvtemi_plan_job or guvtemi_count_job takes up to 240 KiB of stack (docs/ASSURANCE.md). */
 
 #ifndef GUVTEMI_DESK_H
 #define GUVTEMI_DESK_H
@@ -29,15 +29,16 @@
 extern "C" {
 #endif
 
-/* Causes of these calls. 1 to 8 and 16 are the sheet's refusals, 9, 10 and 12 those of planning, 10 also of check and
-   spares: README.md lists them. */
+/* Causes of these calls. 1 to 8 and 16 are the sheet's refusals, 9, 10 and 12 those of planning and counting, 10 also
+   of check and spares: README.md lists them. */
 enum {
     GUVTEMI_WRITTEN = 0,       /* export, import and heaviest: no refusal, the outputs hold the result */
     GUVTEMI_MALFORMED = 13,    /* import: a text is malformed, or beyond 64 links or 512 frequencies */
     GUVTEMI_BAD_EDGE = 14,     /* import: an edge inside a link, or repeated either way round */
     GUVTEMI_NO_ROOM = 15,      /* more than 8,192 pairs of kind 3, or an output shorter than what this call writes */
-    GUVTEMI_BAD_CHANNELS = 17, /* plan, check and spares: a channel out of 21 to 48, or not above the one before it */
-    GUVTEMI_BAD_SIZES = 18     /* heaviest: k or m is 0, k above 64, k x m above 512, or the buffer under 65,536 bytes */
+    GUVTEMI_BAD_CHANNELS = 17, /* plan, count, check, spares: a channel out of 21 to 48, or not above the one before */
+    GUVTEMI_BAD_SIZES = 18,    /* heaviest: k or m is 0, k above 64, k x m above 512, or the buffer under 65,536 bytes */
+    GUVTEMI_FEW_COUNTS = 19    /* count: room for fewer counts than the sheet has frequencies */
 };
 
 /* Channels of a list. */
@@ -52,7 +53,8 @@ enum {
     GUVTEMI_MOST_GRAPH_BYTES = 1235834,
     GUVTEMI_MOST_COUNT_BYTES = 177,
     GUVTEMI_ENOUGH_SHEET_BYTES = 65536,
-    GUVTEMI_MOST_TABLE_BYTES = 16384  /* of guvtemi_spares: 64 x 64 places of four bytes */
+    GUVTEMI_MOST_TABLE_BYTES = 16384,       /* of guvtemi_spares: 64 x 64 places of four bytes */
+    GUVTEMI_ENOUGH_PLAN_COUNT_BYTES = 4096  /* of guvtemi_count_job: 512 counts of eight bytes */
 };
 
 /* Plans a sheet with channels on air: guvtemi_plan of guvtemi.h with a list beside the sheet. A frequency that a channel
@@ -67,6 +69,20 @@ enum {
 uint64_t guvtemi_plan_job(const uint8_t *sheet, size_t sheet_len, const uint8_t *channels, size_t channels_len,
                           uint32_t filter, uint32_t choice, uint32_t limit, const uint8_t *classes, size_t classes_len,
                           uint8_t *cells, size_t cells_len);
+
+/* Plans a sheet with channels on air and counts its plans: how many use each frequency. The search goes on after a plan
+   to the end of its tree; this longer tree is the one whose nodes are reported and held to the limit. channels, filter,
+   choice, limit, classes and cells are as for guvtemi_plan_job; unless stopped, so are verdict and plan.
+   counts    at least eight bytes a frequency of the sheet, also for a struck one; found fills them with a count for each
+             frequency in the sheet's order, little-endian; every other byte becomes 0, on every answer; guvtemi_plans
+             reads them
+   A count is the number of plans with that frequency, whatever filter and choice, and 0 for a struck one; those of a
+   link's frequencies sum to the number of plans, for every link. Without a plan all are 0, and the nodes are those of
+   guvtemi_plan_job. Stopped leaves counts and cells zero, also where the search has met plans.
+   Returns the nodes plus 2^32 times the answer's number: as guvtemi_plan_job, or 19, which comes after 12. */
+uint64_t guvtemi_count_job(const uint8_t *sheet, size_t sheet_len, const uint8_t *channels, size_t channels_len,
+                           uint32_t filter, uint32_t choice, uint32_t limit, const uint8_t *classes, size_t classes_len,
+                           uint8_t *cells, size_t cells_len, uint8_t *counts, size_t counts_len);
 
 /* Checks cells against a sheet and the channels on air: guvtemi_check of guvtemi.h, which a struck frequency fails:
    GUVTEMI_NO, no refusal. A refusal is as there, or 17, which comes after 10. Writes nothing. */
@@ -116,6 +132,12 @@ static inline int32_t guvtemi_spare(const uint8_t *table, size_t k, size_t a, si
 {
     uint32_t bits = guvtemi_khz(table, k * a + b);
     return bits < 0x80000000u ? (int32_t)bits : -(int32_t)(0xffffffffu - bits) - 1;
+}
+
+/* The number of plans with frequency number `v` of the sheet, counted through all links from 0. */
+static inline uint64_t guvtemi_plans(const uint8_t *counts, size_t v)
+{
+    return guvtemi_khz(counts, 2 * v) | (uint64_t)guvtemi_khz(counts, 2 * v + 1) << 32;
 }
 
 /* The cause and the two lengths in what guvtemi_export returned. */

@@ -1,8 +1,8 @@
 /* Calls the functions of include/guvtemi_desk.h for records on standard input and writes what came back to standard output.
 
-   A record, little-endian, 32 bits each: call (0 export, 1 import, 2 plan, 3 check, 4 spares, 5 heaviest), three numbers (of plan:
-   filter, choice, limit; of heaviest: k, m), the lengths of its slices, four numbers, then their bytes; those of a slice that is
-   written are what it holds before. A number that a call has no use for is 0.
+   A record, little-endian, 32 bits each: call (0 export, 1 import, 2 plan, 3 check, 4 spares, 5 heaviest, 6 count), three numbers (of
+   plan and count: filter, choice, limit; of heaviest: k, m), the lengths of its slices, five numbers, then their bytes; those of a
+   slice that is written are what it holds before. A number that a call has no use for is 0.
    An answer: the number returned (64 bits), 32 bits that are 0 where everything that must stay as it was did, then the bytes of each
    slice that is written.
 
@@ -19,12 +19,12 @@
 #define GUARD 0
 #endif
 
-enum { NUMBERS = 4, SLICES = 4 };
+enum { NUMBERS = 4, SLICES = 5 };
 
 /* The slices of each call, and the first of them that it writes. */
 static const struct {
     int slices, written;
-} SHAPES[] = {{3, 1}, {3, 2}, {4, 3}, {3, 3}, {4, 3}, {1, 0}};
+} SHAPES[] = {{3, 1}, {3, 2}, {4, 3}, {3, 3}, {4, 3}, {1, 0}, {5, 3}};
 
 typedef struct {
     size_t length;
@@ -73,7 +73,7 @@ static int changed(const Slice *slice, int written)
 
 static uint64_t call(const uint32_t *numbers, const Slice *slices)
 {
-    const Slice *a = slices, *b = slices + 1, *c = slices + 2, *d = slices + 3;
+    const Slice *a = slices, *b = slices + 1, *c = slices + 2, *d = slices + 3, *e = slices + 4;
     switch (numbers[0]) {
     case 0:
         return guvtemi_export(lent(a), a->length, lent(b), b->length, lent(c), c->length);
@@ -86,8 +86,11 @@ static uint64_t call(const uint32_t *numbers, const Slice *slices)
         return guvtemi_check_job(lent(a), a->length, lent(b), b->length, lent(c), c->length);
     case 4:
         return guvtemi_spares(lent(a), a->length, lent(b), b->length, lent(c), c->length, lent(d), d->length);
-    default:
+    case 5:
         return guvtemi_heaviest(numbers[1], numbers[2], lent(a), a->length);
+    default:
+        return guvtemi_count_job(lent(a), a->length, lent(b), b->length, numbers[1], numbers[2], numbers[3], lent(c), c->length,
+                                 lent(d), d->length, lent(e), e->length);
     }
 }
 

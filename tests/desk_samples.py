@@ -1,6 +1,6 @@
 """Inputs for the desk library: calls of export and import on random, damaged and extreme sheets and texts; calls of planning
 and checking with channels on air are in air_samples.py, those of the spare spacing in spare_samples.py, those for a heaviest job
-in heaviest_tests.py."""
+in heaviest_tests.py, those that count plans in count_samples.py."""
 
 import re
 from dataclasses import dataclass
@@ -9,7 +9,7 @@ import reading
 import samples
 from jobsheet.binary import LISTED, Rule, Sheet, encode
 
-EXPORT, IMPORT, PLAN, CHECK, SPARES, HEAVIEST = range(6)
+EXPORT, IMPORT, PLAN, CHECK, SPARES, HEAVIEST, COUNT = range(7)
 MOST_GRAPH_BYTES, MOST_COUNT_BYTES, ENOUGH_SHEET_BYTES = 1_235_834, 177, 65_536
 EIGHTS = [8] * 64
 LONGEST_GRAPH, LONGEST_COUNTS = [9] + [8] * 12 + [7] + [8] * 50, [10] * 49 + [1] * 14 + [8]  # counts of the longest texts
@@ -18,8 +18,8 @@ ODD_NUMBERS = ("0", "00", "01", "", "-1", "+1", "1.0", "1e1", "0x1", " 1", "1 ",
 
 @dataclass
 class DeskCall:
-    """One call of the desk library: the slices that it reads, what those that it writes hold before, and its numbers: planning's filter,
-    choice and limit, or k and m of a heaviest job."""
+    """One call of the desk library: the slices that it reads, what those that it writes hold before, and its numbers: filter, choice and limit
+    of planning and counting, or k and m of a heaviest job."""
     function: int
     read: list
     written: list

@@ -1,22 +1,23 @@
 """Tests of the desk library: every call against the reading, what a round trip keeps, channels on air; those of the spare spacing
-alone are in spare_tests.py, those of the heaviest job in heaviest_tests.py."""
+alone are in spare_tests.py, those of the heaviest job in heaviest_tests.py, those of counting in count_tests.py."""
 
 import random
 from collections import Counter
 
 import air_samples
+import count_samples
 import desk_samples
 import native
 import reading
 import samples
 import spare_samples
-from desk_samples import CHECK, EXPORT, HEAVIEST, IMPORT, MOST_COUNT_BYTES, MOST_GRAPH_BYTES, PLAN, SPARES, DeskCall
+from desk_samples import CHECK, COUNT, EXPORT, HEAVIEST, IMPORT, MOST_COUNT_BYTES, MOST_GRAPH_BYTES, PLAN, SPARES, DeskCall
 from harness import EXAMPLES, need, test
 from jobsheet.binary import LISTED, SPACING, Rule, Sheet, encode
 from native import DESK_ARCHIVE, SANITIZE
 
 GUARDED = ["-O2", "-DGUARD=64"]
-NAMES = {EXPORT: "export", IMPORT: "import", PLAN: "plan", CHECK: "check", SPARES: "spares", HEAVIEST: "heaviest"}
+NAMES = {EXPORT: "export", IMPORT: "import", PLAN: "plan", CHECK: "check", SPARES: "spares", HEAVIEST: "heaviest", COUNT: "count"}
 READINGS = {EXPORT: reading.desk_export, IMPORT: reading.desk_import, SPARES: reading.spares}  # of the slices read, and the lengths of those written
 
 
@@ -31,9 +32,10 @@ def wanted(call):
     room = map(len, call.written)
     if call.function == HEAVIEST:
         returned, *after = reading.desk_heaviest(*call.setting[:2], *room)
-    elif call.function == PLAN:
+    elif call.function in (PLAN, COUNT):
         data, channels, classes = call.read
-        returned, *after = reading.plan_job(data, channels, *call.setting, classes, *room)
+        run = reading.plan_job if call.function == PLAN else reading.count_job
+        returned, *after = run(data, channels, *call.setting, classes, *room)
     else:
         returned, *after = READINGS[call.function](*call.read, *room)
     return returned, after
@@ -41,7 +43,7 @@ def wanted(call):
 
 def cause_of(call, returned):
     """The cause, or the number of an answer."""
-    return returned >> {EXPORT: 48, IMPORT: 32, PLAN: 32, CHECK: 0, SPARES: 0, HEAVIEST: 32}[call.function]
+    return returned >> {EXPORT: 48, CHECK: 0, SPARES: 0}.get(call.function, 32)
 
 
 def compare(calls, found):
@@ -256,6 +258,8 @@ def checked_calls(args):
     calls += [call for *_, call in [*spare_samples.length_calls(rng), *spare_samples.order_calls(rng), *spare_samples.known_calls(rng)]][::9]
     calls += [DeskCall(HEAVIEST, [], [b"\xee" * room], (k, m, 0)) for k, m in ((1, 1), (3, 2), (2, 256), (64, 8), (64, 2**26))
               for room in (desk_samples.ENOUGH_SHEET_BYTES, desk_samples.ENOUGH_SHEET_BYTES - 1, 0)]
+    calls += [count_samples.random_count_call(rng) for _ in range(150)] + list(count_samples.limit_count_calls(rng))[::9]
+    calls += [call for *_, call in [*count_samples.length_calls(rng), *count_samples.order_calls(rng), *count_samples.known_calls(rng)]][::9]
     return calls + list(desk_samples.limit_exports(rng))[::4]
 
 

@@ -14,7 +14,7 @@ from native import ARCHIVE, DESK_ARCHIVE, ROOT, SANITIZE, WARNINGS, run
 
 HEADERS = {"guvtemi.h": (ARCHIVE, {"guvtemi_plan", "guvtemi_check"}),
            "guvtemi_desk.h": (DESK_ARCHIVE, {"guvtemi_export", "guvtemi_import", "guvtemi_plan_job", "guvtemi_check_job", "guvtemi_spares",
-                                             "guvtemi_heaviest"})}
+                                             "guvtemi_heaviest", "guvtemi_count_job"})}
 
 
 # ---- The libraries and the headers

@@ -64,8 +64,8 @@ def desk_answers(driver, calls, under=run):
     records = []
     for call in calls:
         slices = [*call.read, *call.written]
-        lengths = [len(one) for one in slices] + [0] * (4 - len(slices))
-        records += [struct.pack("<8I", call.function, *call.setting, *lengths), *slices]
+        lengths = [len(one) for one in slices] + [0] * (5 - len(slices))
+        records += [struct.pack("<9I", call.function, *call.setting, *lengths), *slices]
     return _told(driver, records, [call.written for call in calls], under)
 
 

@@ -7,7 +7,15 @@ from dataclasses import dataclass
 import reading
 from jobsheet.binary import EXACT, LISTED, SPACING, Rule, Sheet, encode
 
+M1 = Sheet([[500_000, 500_400], [500_000, 500_300]], [Rule(0, 1, SPACING, 400)])
 UNRULED = Sheet([[500_000], [500_000]], [])  # the rule-less sheet of the scope: no plan
+# Document 000, Example 1 and Example 3.
+EXAMPLE_1 = Sheet([[1, 3, 5], [1, 2, 3], [5, 6], [1, 2, 3]],
+                  [Rule(0, 1, LISTED, 0, [(0, 0), (0, 1), (1, 2), (2, 2)]), Rule(0, 2, LISTED, 0, [(0, 0), (1, 1)]), Rule(0, 3, LISTED, 0, [(0, 0)]),
+                   Rule(1, 2, LISTED, 0, [(0, 0), (1, 0), (1, 1), (2, 1)]), Rule(1, 3, LISTED, 0, [(0, 0)]),
+                   Rule(2, 3, LISTED, 0, [(0, 0), (1, 1), (1, 2)])])
+EXAMPLE_3 = Sheet([[1, 2], [1, 2, 3], [1]],
+                  [Rule(0, 1, LISTED, 0, [(0, 0), (1, 0), (1, 1), (1, 2)]), Rule(0, 2, LISTED, 0, [(0, 0)]), Rule(1, 2, LISTED, 0, [(1, 0)])])
 EDGES = (0, 1, 2, 3, 4, 39, 40, 63, 64, 65, 255, 256, 511, 512, 513, 2016, 2017, 8192, 8193, 32767, 32768, 65535)
 WIDE_EDGES = EDGES + (20_000, 20_001, 65536, 9_999_999, 10_000_000, 2**31 - 1, 2**31, 2**32 - 1)
 
@@ -326,7 +334,7 @@ def telling_sheets():
     """Small sheets on which a slip shows: the scope's sheets with known results and some more."""
     listed = lambda rules: [Rule(a, b, LISTED, 0, pairs) for a, b, pairs in rules]  # noqa: E731
     return [
-        Sheet([[500_000, 500_400], [500_000, 500_300]], [Rule(0, 1, SPACING, 400)]),
+        M1,
         Sheet([[500_000], [500_100]], [Rule(0, 1, SPACING, 400)]),
         Sheet([[500_000], [500_100]], [Rule(0, 1, SPACING, 100)]),
         UNRULED,
@@ -335,11 +343,7 @@ def telling_sheets():
         Sheet([[500_000], [500_000]], listed([(0, 1, [(0, 0)])])),
         Sheet([[1, 2], [1, 2]], listed([(0, 1, [(0, 0), (1, 1)])])), Sheet([[1, 2], [1, 2]], listed([(0, 1, [(0, 1), (1, 0)])])),
         Sheet([[1, 2]] * 3, []), Sheet([[1, 2]] * 3, [Rule(0, 1, SPACING, 1)] + listed([(1, 2, [(0, 0), (0, 1), (1, 0), (1, 1)])])),
-        # Document 000, Example 1 and Example 3.
-        Sheet([[1, 3, 5], [1, 2, 3], [5, 6], [1, 2, 3]],
-              listed([(0, 1, [(0, 0), (0, 1), (1, 2), (2, 2)]), (0, 2, [(0, 0), (1, 1)]), (0, 3, [(0, 0)]),
-                      (1, 2, [(0, 0), (1, 0), (1, 1), (2, 1)]), (1, 3, [(0, 0)]), (2, 3, [(0, 0), (1, 1), (1, 2)])])),
-        Sheet([[1, 2], [1, 2, 3], [1]], listed([(0, 1, [(0, 0), (1, 0), (1, 1), (1, 2)]), (0, 2, [(0, 0)]), (1, 2, [(1, 0)])])),
+        EXAMPLE_1, EXAMPLE_3,
         # An exact distance downwards and upwards.
         Sheet([[4], [1, 7]], [Rule(0, 1, EXACT, 3)]), Sheet([[4], [7]], [Rule(0, 1, EXACT, 3)]), Sheet([[4], [1]], [Rule(0, 1, EXACT, 3)]),
         # A trial that succeeds and whose strikes must not stay.

@@ -8,10 +8,10 @@ import samples
 from desk_samples import SPARES, DeskCall, filled
 from jobsheet.answer import Answer
 from jobsheet.binary import EXACT, LISTED, SPACING, Rule, Sheet, encode
+from samples import M1
 
 LEAST, MOST = -20_039_998, 19_999_995  # half kHz of any two frequencies, links and rules
 MOST_TABLE_BYTES = 16_384
-M1 = Sheet([[500_000, 500_400], [500_000, 500_300]], [Rule(0, 1, SPACING, 400)])
 M1_WIDE = Sheet(M1.links, M1.rules, [30, 50])
 # Four links, each on the first frequency of its list: kinds 1, 2, 3 and no rule, in form 2.
 MIXED = Sheet([[100, 200], [130, 300], [130, 140], [125]],

@@ -24,7 +24,7 @@ from jobsheet.columns import width
 from native import DESK_ARCHIVE, ROOT, run
 from spare_samples import answered
 
-COMMANDS = ("make", "show", "why", "plan", "picture", "dimacs", "from-dimacs", "heaviest")
+COMMANDS = ("make", "show", "why", "plan", "counts", "picture", "dimacs", "from-dimacs", "heaviest")
 
 
 @test("examples/README.md says what the planner answers")
@@ -188,17 +188,20 @@ def _(_):
             files[name].write_bytes(data)
         (Path(folder) / "deep").mkdir()
         inputs = [*files.values(), Path(folder) / "missing", Path(folder), Path(folder) / "x\0y"]
-        cases = [[name, path] for name in COMMANDS[:6] for path in inputs if "\0" not in str(path)]
+        cases = [[name, path] for name in COMMANDS[:7] for path in inputs if "\0" not in str(path)]
         cases += [["from-dimacs", *two] for path in inputs[:-1] for two in ((path, files["text"]), (files["text"], path), (path,), ("-", "-"))]
         cases += [[], ["unknown"], ["make"], ["make", files["text"], "-o", Path(folder) / "deep"], ["picture", files["text"], "-o", Path(folder) / "no" / "where"],
                   ["dimacs", files["text"], "-o", Path(folder) / "no" / "where"], ["dimacs", files["text"], "-o", "-"], ["dimacs", "-"]]
-        cases += [[name, files["text"], "--air", given] for name in ("plan", "picture", "why") for given in ("20", "x", "41-38", "256", "-1", "38,38")]
+        cases += [[name, files["text"], "--air", given] for name in ("plan", "counts", "picture", "why")
+                  for given in ("20", "x", "41-38", "256", "-1", "38,38")]
+        cases += [["counts", files["text"], "--limit", given] for given in ("", "0", "x", "-1", "1.5", "1000000001", "9" * 30)]
+        cases += [["picture", files["text"], "--limit", "5"], ["plan", files["text"], "--limit", "5"], ["counts", files["text"], "--spare"]]
         cases += [["plan", files["text"], "--air"], ["plan", files["text"], "--air", ""], ["make", files["text"], "--air", "38"]]
         for case in cases:
             done = run([SHEET, *case], cwd=folder, input=b"")
             said = (done.stdout + done.stderr).decode(errors="replace")
             need("Traceback" not in said and said.strip(), f"{case}: {said[-300:]}")
-            good = case[:1] in (["make"], ["plan"], ["picture"], ["dimacs"]) and case[1:] == [files["text"]]
+            good = case[:1] in (["make"], ["plan"], ["counts"], ["picture"], ["dimacs"]) and case[1:] == [files["text"]]
             need((done.returncode == 0) == good, f"{case}: status {done.returncode}")
 
 

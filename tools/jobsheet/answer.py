@@ -1,4 +1,4 @@
-"""The planner's answer to a job: running the proved program, or the desk's planning call; the verdict in words."""
+"""The planner's answer to a job: running the proved program, or the desk's calls for planning and counting; the verdict in words."""
 
 import subprocess
 import sys
@@ -16,6 +16,8 @@ ROOT = Path(__file__).resolve().parents[2]
 PROGRAM = ROOT / "target" / "bin" / "plan"
 PATIENCE = 3  # seconds before a word that planning goes on
 SETTING = (7, 0, 1_000_000)  # filter, choice and limit, as the program has them
+COUNT_LIMIT, MOST_NODES = 100_000_000, 1_000_000_000
+COUNT_FILTER = 3  # most of a run that counts is below plans, where more filters take time and strike little
 VERDICTS = {100: "found", 101: "none", 102: "stopped"}
 YES = 100  # of the check
 
@@ -23,11 +25,12 @@ YES = 100  # of the check
 @dataclass
 class Answer:
     """verdict is found, none, stopped or refused; number its nodes, or the refusal; khz the plan in link order; spares its spare spacing in half
-    kHz, a row for each link."""
+    kHz, a row for each link; counts, of a run that counts and was not stopped, the plans that use each frequency, a list for each link."""
     verdict: str
     number: int
     khz: list
     spares: list = field(default_factory=list)
+    counts: list = field(default_factory=list)
 
 
 def ask(data):
@@ -43,7 +46,7 @@ def ask(data):
         try:
             printed, _ = process.communicate(data, timeout=PATIENCE)
         except subprocess.TimeoutExpired:
-            _go_on()
+            _go_on("planning, up to 1,000,000 nodes: a tight job can take minutes")
             printed, _ = process.communicate()
     answer = _read(printed.decode("ascii", "replace"))
     if answer is None:
@@ -53,34 +56,45 @@ def ask(data):
     return answer
 
 
-def _go_on():
-    print("planning, up to 1,000,000 nodes: a tight job can take minutes (Ctrl-C gives up) ..", file=sys.stderr, flush=True)
+def _go_on(words):
+    print(f"{words} (Ctrl-C gives up) ..", file=sys.stderr, flush=True)
 
 
 def ask_desk(data, links, channels):
     """What the desk's planning call answers to the bytes of a sheet with so many links, with these channels on air."""
+    number, nodes, khz = _patiently(lambda: desk.plan(data, bytes(channels), links, SETTING),
+                                    f"planning, up to {SETTING[2]:,} nodes: a tight job can take minutes")
+    return _told(number, nodes, khz)
+
+
+def _told(number, nodes, khz, counts=()):
+    """What a call of the desk says."""
+    if number not in VERDICTS:
+        return Answer("refused", number, [])
+    return Answer(VERDICTS[number], nodes, khz if number == 100 else [], counts=list(counts) if number != 102 else [])
+
+
+def _patiently(call, words):
+    """What a call of the desk gives; these words are said where it takes long."""
     told = []
     desk.ready()
 
-    def call():
+    def run():
         try:
-            told.append(desk.plan(data, bytes(channels), links, SETTING))
+            told.append(call())
         except NoAnswer as error:
             told.append(error)
 
     # Beside this thread, so that Ctrl-C is heard.
-    thread = threading.Thread(target=call, daemon=True)
+    thread = threading.Thread(target=run, daemon=True)
     thread.start()
     thread.join(PATIENCE)
     if thread.is_alive():
-        _go_on()
+        _go_on(words)
         thread.join()
     if not told or isinstance(told[0], NoAnswer):
-        raise told[0] if told else NoAnswer("the desk's planning call gave no answer. Build it again with 'rt staticlib desk'.")
-    number, nodes, khz = told[0]
-    if number not in VERDICTS:
-        return Answer("refused", number, [])
-    return Answer(VERDICTS[number], nodes, khz if number == 100 else [])
+        raise told[0] if told else NoAnswer("the desk's call gave no answer. Build it again with 'rt staticlib desk'.")
+    return told[0]
 
 
 def _read(printed):
@@ -100,9 +114,25 @@ def _read(printed):
 
 
 def plan(sheet, channels=()):
-    """The answer to an accepted sheet with these channels on air: the desk's, or the program's where there are none. A plan is held to the
-    rules twice more before anybody tunes by it: by the desk, which gives its spare spacing, and here."""
+    """The answer to an accepted sheet with these channels on air: the desk's, or the program's where there are none."""
     answer = ask_desk(encode(sheet), len(sheet.links), channels) if channels else ask(encode(sheet))
+    return _held(sheet, channels, answer, "rt staticlib desk" if channels else "rt check plan")
+
+
+def count(sheet, channels=(), limit=COUNT_LIMIT):
+    """The answer of the desk's counting call to an accepted sheet with these channels on air."""
+    sizes = [len(listed) for listed in sheet.links]
+    number, nodes, khz, counts = _patiently(lambda: desk.count(encode(sheet), bytes(channels), sizes, (COUNT_FILTER, 0, limit)),
+                                            f"counting, up to {limit:,} nodes: this can take minutes")
+    if len({sum(listed) for listed in counts}) > 1 or (number == 100) != any(counts[0]):
+        raise NoAnswer("the counts of the links sum to different numbers of plans: do not go by them. Build the library again with "
+                       "'rt staticlib desk'.")
+    return _held(sheet, channels, _told(number, nodes, khz, counts), "rt staticlib desk")
+
+
+def _held(sheet, channels, answer, build):
+    """The answer, not refused. A plan is held to the rules twice more before anybody tunes by it: by the desk, which gives its spare spacing, and
+    here."""
     if answer.verdict == "refused":
         raise NoAnswer(f"the planner refuses this sheet with number {answer.number}, and this command accepts it: "
                        "one of the two is wrong. Please report it with the sheet.")
@@ -111,7 +141,7 @@ def plan(sheet, channels=()):
         if number != YES or not keeps_rules(sheet, answer.khz, channels):
             clash = clashes(answer.spares)
             raise NoAnswer(f"the planner's plan does not keep the rules of this sheet{f' ({clash})' if clash else ''}: do not tune by it. "
-                           f"Build the planner again with '{'rt staticlib desk' if channels else 'rt check plan'}'.")
+                           f"Build the planner again with '{build}'.")
     return answer
 
 

@@ -1,7 +1,8 @@
-"""The proved calls of include/guvtemi_desk.h: planning with channels on air, the spare spacing of a plan, a sheet's graph as DIMACS text
-(docs/DIMACS.md) and back, the heaviest job."""
+"""The proved calls of include/guvtemi_desk.h: planning with channels on air, counting the plans, the spare spacing of a plan, a sheet's graph as
+DIMACS text (docs/DIMACS.md) and back, the heaviest job."""
 
 import ctypes
+import itertools
 import os
 import re
 import shutil
@@ -50,6 +51,17 @@ def plan(sheet, channels, links, setting):
     function = _function("guvtemi_plan_job", SLICE * 2 + [ctypes.c_uint32] * 3 + SLICE * 2)
     returned = function(sheet, len(sheet), channels, len(channels), *setting, None, 0, cells, len(cells))
     return returned >> 32, returned % 2**32, list(struct.unpack(f"<{links}I", cells.raw))
+
+
+def count(sheet, channels, sizes, setting):
+    """(number, nodes, the kHz of each link, the counts of each link's frequencies) of such bytes, whose links have so many frequencies each, under
+    such a setting."""
+    cells, counts = ctypes.create_string_buffer(4 * len(sizes)), ctypes.create_string_buffer(8 * sum(sizes))
+    function = _function("guvtemi_count_job", SLICE * 2 + [ctypes.c_uint32] * 3 + SLICE * 3)
+    returned = function(sheet, len(sheet), channels, len(channels), *setting, None, 0, cells, len(cells), counts, len(counts))
+    every = iter(struct.unpack(f"<{sum(sizes)}Q", counts.raw))
+    return (returned >> 32, returned % 2**32, list(struct.unpack(f"<{len(sizes)}I", cells.raw)),
+            [list(itertools.islice(every, size)) for size in sizes])
 
 
 def spares(sheet, channels, khz):

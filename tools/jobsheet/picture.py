@@ -4,6 +4,7 @@ the television channels on air are shaded, and the frequencies that they take cr
 from xml.sax.saxutils import escape
 
 from . import channels as air
+from . import counts as tally
 from .answer import said
 from .axis import Axis, spread
 from .columns import cut, kilohertz, width
@@ -40,6 +41,15 @@ WIDTH_STYLE = """.centre { stroke-width: 1 }
 .worst-band { fill: #c0281c; fill-opacity: 0.5 }
 """
 
+# More of it with counts; the shades are those of jobsheet/counts.py, the first in no plan, the last in every one.
+COUNT_STYLE = """.dead { stroke: #9aa5b1; fill: white }
+.shade-1 { stroke: #bcd4ea; stroke-width: 3 }
+.shade-2 { stroke: #86b0d6; stroke-width: 3 }
+.shade-3 { stroke: #4a86bd; stroke-width: 3 }
+.shade-4 { stroke: #1f4e79; stroke-width: 3 }
+.shade-5 { stroke: #0a1c2e; stroke-width: 5 }
+"""
+
 # More of it with channels on air.
 AIR_STYLE = """.air { fill: #fbf0d9 }
 .air-strip { fill: #f0d195; stroke: #fffaf0 }
@@ -64,6 +74,7 @@ class _Picture:
         self.edges = self.sheet.form() == 2
         self.axis = Axis([self._stretch(link, khz) for link, listed in enumerate(self.sheet.links) for khz in listed], left, WIDE - RIGHT)
         self.channels = job.channels
+        self.plans = tally.plans(answer) if answer.counts else None
         self.behind, self.shapes = [], []
 
     def _stretch(self, link, khz):
@@ -85,7 +96,7 @@ class _Picture:
         return "\n".join([
             f'<svg xmlns="http://www.w3.org/2000/svg" width="{WIDE}" height="{height:.0f}" viewBox="0 0 {WIDE} {height:.0f}">',
             f"<title>{escape(self.job.name)}</title>",
-            f"<style>{STYLE}{WIDTH_STYLE if self.edges else ''}{AIR_STYLE if self.channels else ''}</style>",
+            f"<style>{STYLE}{WIDTH_STYLE if self.edges else ''}{COUNT_STYLE if self.answer.counts else ''}{AIR_STYLE if self.channels else ''}</style>",
             f'<rect width="{WIDE}" height="{height:.0f}" fill="white"/>', *self.behind, *self.shapes, "</svg>", ""])
 
     def _write(self, x, y, words, kind="", anchor="start", more=""):
@@ -106,7 +117,8 @@ class _Picture:
     def _heading(self, y):
         most = int((WIDE - 60) / CHARACTER)
         self._write(24, y, cut(self.job.name, most * 11 // 17), "title")
-        self._write(24, y + 21, cut(f"{self.sheet.counted()}: {said(self.answer)}", most))
+        told = tally.said(self.answer) if self.answer.counts else said(self.answer)
+        self._write(24, y + 21, cut(f"{self.sheet.counted()}: {told}", most))
         if self.channels:
             y += 18
             self._write(24, y + 21, cut(air.told(self.sheet, self.channels), most), "air-text")
@@ -192,10 +204,12 @@ class _Picture:
             self._write(self.axis.left - 12, middle + 4, f"{link:2} {self.names[link]}", "worst-text" if worst else "", "end")
             for left, right in self.axis.runs():
                 self._line([(left, middle), (right, middle)], "lane")
-            for khz in listed:
+            for place, khz in enumerate(listed):
                 x, told = self.axis.x(khz), f"{self.job.names[link]} can tune to {mhz(khz)} MHz"
                 channel = air.taker(self.channels, khz)
-                if channel is None:
+                if channel is None and self.answer.counts:
+                    self._shaded(x, middle, self.answer.counts[link][place], told)
+                elif channel is None:
                     self._line([(x, middle - 4), (x, middle + 4)], "candidate", told)
                 else:
                     cross = [(x - 3, middle - 3), (x + 3, middle + 3), (x, middle), (x - 3, middle + 3), (x + 3, middle - 3)]
@@ -207,7 +221,7 @@ class _Picture:
                 self.shapes.append(f'<circle cx="{self.axis.x(self.plan[link]):.1f}" cy="{middle:.1f}" r="4" class="{kind}">'
                                    f"<title>{escape(self.job.names[link])}: {mhz(self.plan[link])} MHz</title></circle>")
         end = self._scale(bottom + 6)
-        told = ["grey strokes: the frequencies that a link can tune to"]
+        told = ["strokes: the frequencies that a link can tune to" if self.answer.counts else "grey strokes: the frequencies that a link can tune to"]
         told += ["dots: the plan"] if self.plan else []
         told += ["bars: its carriers as wide as they are"] if self.plan and self.edges else []
         told += ["red: the least spare spacing"] if self.worst else []
@@ -215,7 +229,32 @@ class _Picture:
         if self.channels:
             end += 16
             self._write(self.axis.left, end + 4, "shaded: television channels on air; crosses: the frequencies that they take", "quiet")
+        if self.answer.counts:
+            end = self._legend(end + 18)
         return end + 20
+
+    def _shaded(self, x, middle, count, told):
+        """A frequency by the plans that use it: hollow where there are none, else a stroke, the darker the more."""
+        number = tally.shade(count, self.plans)
+        if number == 0:
+            self.shapes.append(f'<circle cx="{x:.1f}" cy="{middle:.1f}" r="2.6" class="dead"><title>{escape(told)}, in no plan</title></circle>')
+        else:
+            of = f"{count:,} of {self.plans:,} plan{'s' * (self.plans != 1)} ({tally.share(count, self.plans)})"
+            self._line([(x, middle - 6), (x, middle + 6)], f"shade-{number}", f"{told}, in {of}")
+
+    def _legend(self, y):
+        """The shades with what they mean."""
+        x, words = self.axis.left, "plans that use a frequency:"
+        self._write(x, y + 4, words, "quiet")
+        x += CHARACTER * (len(words) + 2)
+        for number, word in enumerate(("none", *(word for _, word in tally.SHADES), "all")):
+            if number == 0:
+                self.shapes.append(f'<circle cx="{x:.1f}" cy="{y:.1f}" r="2.6" class="dead"/>')
+            else:
+                self._line([(x, y - 6), (x, y + 6)], f"shade-{number}")
+            self._write(x + 8, y + 4, word, "quiet")
+            x += 8 + CHARACTER * (len(word) + 3)
+        return y
 
 
 def _fits(label):
