@@ -10,6 +10,7 @@ use lib.Dec.{eqb, ltb, leb}
 use lib.ListN.{length, getD, List·getD-eq-default}
 use borrow.Author.Tests.{eqb-true, eqb-false, ltb-true, ltb-false, le-leb, le-ltb}
 use Rattle.sets.specs.Below.{tabulate}
+use Rattle.sets.proofs.Tests.{bool}
 use Rattle.sets.proofs.Lists.{length-tabulate, getD-tabulate, tabulate-same}
 use Rattle.channels.specs.Channels.{channelsOk}
 use Rattle.sheet.specs.Sheet.{kOf}
@@ -94,7 +95,14 @@ module _ (job : Job) (x : Setting) (m r : ℕ) (hm : 64 ≤ m) (hr : 64 ≤ r) w
           rw (outcome-refused job x r workWords (λ i. ne (sym same-cause ∙ i)), outcome-refused job x m workWords ne)
           (record { answer = same-cause; nodes = refl; cells = zeros-alike m r })
 
--- the planner lent the lesser of m and 64 cells
+-- the planner lent the lesser of m and 64 cells: its causes, and what it gives
+pub lent-cause : (job : Job) (x : Setting) (m r : ℕ) → r ≡ min m 64
+    → callRefusal job x r workWords ≡ callRefusal job x m workWords
+lent-cause job x m r e = bool (ltb m 64)
+    (λ q. ap (λ y. callRefusal job x y workWords) (e ∙ min-eq-left (omega (arith, ltb-true m 64 q))))
+    (λ q. let h = ltb-false m 64 q in
+    same-cause job x m r h (rw (e ∙ min-comm m 64 ∙ min-eq-left h) (omega arith)))
+
 pub lent-alike : (job : Job) (x : Setting) (m r : ℕ) → r ≡ min m 64
     → Alike (outcome job x r workWords) (outcome job x m workWords)
 lent-alike job x m r e = go (ltb m 64) refl

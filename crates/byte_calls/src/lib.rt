@@ -22,7 +22,7 @@ use rules::check_number;
 use setting::Options;
 
 // The number that the caller is handed.
-fn number(p: Planned) -> u64
+pub fn number(p: Planned) -> u64
     ensures { λ r. ⌜ r ≡ p .nodes + 2 ^ 32 * verdictNumber (p .verdict) ⌝ }
 {
     let nodes = p.nodes as u64;

@@ -1,6 +1,6 @@
 // The desk's calls, with numbers and byte slices, for a C program: what a planner's desk asks beside the console's two
-// calls. Their contracts cite specs/Desk.antt and the definitions of the crates byte_calls and spares_bytes, for every
-// input.
+// calls. Their contracts cite specs/Desk.antt and the definitions of the crates byte_calls, count_bytes and
+// spares_bytes, for every input.
 ghost use mathlib.Core.Path.{_≡_};
 ghost use Prim.Native.Nat.{_+_, _*_, _^_, _≤_};
 ghost use lib.ListN.{length};
@@ -12,10 +12,12 @@ ghost use Rattle.heaviest_sheet.specs.Call.{heaviestOf};
 ghost use Rattle.rules.specs.Job.{jobWith};
 ghost use Rattle.setting.specs.Setting.{settingOf};
 ghost use Rattle.byte_calls.specs.ByteCalls.{outcomeIn, cellsIn, checkedIn, Handed};
+ghost use Rattle.count_bytes.specs.CountBytes.{CountsHanded, countingIn};
 ghost use Rattle.spares_bytes.specs.SparesBytes.{SparesHanded};
 ghost use Rattle.desk.specs.Desk.{ExportHanded, sheetWord, ImportHanded, HeaviestHanded};
 use byte_calls::check_bytes;
 use byte_calls::plan_bytes;
+use count_bytes::count_job_bytes;
 use graph_export::Exported;
 use graph_export::export;
 use graph_export::export_number;
@@ -86,6 +88,31 @@ pub extern "C" fn guvtemi_plan_job(
         limit,
     };
     plan_bytes(sheet, channels, options, classes, cells)
+}
+
+// Plans a job and counts the plans with each of its frequencies.
+#[no_mangle]
+pub extern "C" fn guvtemi_count_job(
+    sheet: &[u8],
+    channels: &[u8],
+    filter: u32,
+    choice: u32,
+    limit: u32,
+    classes: &[u8],
+    cells: &mut [u8],
+    counts: &mut [u8],
+) -> u64
+    ensures { λ r. ⌜ CountsHanded (countingIn (jobWith (now (sheet .entry)) (now (channels .entry)))
+        (settingOf (record { filter = filter; choice = choice; limit = limit }) (now (classes .entry)))
+        (length (now (cells .entry))) (length (now (counts .entry))))
+        (length (now (cells .entry))) (length (now (counts .entry))) r (now (cells .exit)) (now (counts .exit)) ⌝ }
+{
+    let options = Options {
+        filter,
+        choice,
+        limit,
+    };
+    count_job_bytes(sheet, channels, options, classes, cells, counts)
 }
 
 // Checks cells against a job: 0 for no, 100 for yes, or the refusal's number.

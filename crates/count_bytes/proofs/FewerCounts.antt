@@ -1,0 +1,114 @@
+-- A counting call lent 64 cells and 512 counts gives the caller what one lent more gives: a sheet has at most 64 links and
+-- 512 frequencies, and what is past them is zero.
+use mathlib.Core.Path.{_≡_, refl, sym, ap, _∙_}
+use mathlib.Core.Bool.{Bool, true, false, cond}
+use mathlib.Core.List.{List}
+use Prim.Native.Nat.{ℕ, _≤_, _/_, _%_, _^_, min}
+use native.Mathlib.Nat.{min-eq-left, min-comm}
+use native.Mathlib.Omega.{arith}
+use lib.Dec.{eqb, ltb, leb}
+use lib.ListN.{getD}
+use borrow.Author.Tests.{eqb-true, eqb-false, ltb-true, ltb-false, le-leb, le-ltb}
+use Rattle.sets.specs.Below.{tabulate}
+use Rattle.sets.proofs.Tests.{bool}
+use Rattle.sets.proofs.Lists.{tabulate-same}
+use Rattle.sheet.specs.Sheet.{nOf}
+use Rattle.sheet.specs.Refusal.{passing, unless}
+use Rattle.sheet.proofs.Accepted.{accepted}
+use Rattle.rules.specs.Job.{Job}
+use Rattle.search.specs.Limit.{Answer, plan, none, stopped, answer}
+use Rattle.zeros.specs.Zeros.{zeros}
+use Rattle.setting.specs.Setting.{Setting, counting}
+use Rattle.work_words.specs.Layout.{workWords}
+use Rattle.planner.specs.Outcome.{callRefusal, outcomeOf, outcome}
+use Rattle.planner.proofs.Accepted.{call-accepted}
+use Rattle.planner.proofs.Outcomes.{outcome-accepted}
+use Rattle.byte_calls.proofs.FewerCells.{Alike, getD-tabled, lent-cause, lent-alike, alike-handed}
+use Rattle.counting.specs.Plans.{plansWith}
+use Rattle.counting.specs.Outcome.{countingRefusal, longerTreeOf, countOf, countsFor, CountingOutcome, countingOutcome}
+use Rattle.counting.proofs.Outcomes.{cause-same, causes-passed, no-cause, counting-refused, counting-accepted, zeros-at}
+use Rattle.count_bytes.specs.CountBytes.{countByte, countBytes, CountsHanded}
+
+-- two outcomes that the caller cannot tell apart
+pub record AlikeCounting (o p : CountingOutcome) : Type 0 where
+  pub outcome : Alike (o .outcome) (p .outcome)
+  pub counts : (i : ℕ) → getD (o .counts) i 0 ≡ getD (p .counts) i 0
+
+-- the lesser of u and 512 counts is enough just where u is
+enough : (n u s : ℕ) → s ≡ min u 512 → n ≤ 512 → leb n s ≡ leb n u
+enough n u s e h = bool (ltb u 512)
+    (λ q. ap (leb n) (e ∙ min-eq-left (omega (arith, ltb-true u 512 q))))
+    (λ q. let l = ltb-false u 512 q in
+    ap (leb n) (e ∙ min-comm u 512 ∙ min-eq-left l) ∙ le-leb n 512 h ∙ sym (le-leb n u (omega arith)))
+
+module _ (job : Job) (x : Setting) (m r u s : ℕ) (em : r ≡ min m 64) (eu : s ≡ min u 512) where
+  same-cause : countingRefusal job x r s workWords ≡ countingRefusal job x m u workWords
+  unfolding countingRefusal
+  same-cause = rw (lent-cause job x m r em) (go (eqb (callRefusal job x m workWords) 0) refl)
+    where
+      go : (b : Bool) → eqb (callRefusal job x m workWords) 0 ≡ b
+          → passing b (callRefusal job x m workWords) (λ _. unless (leb (nOf (job .sheet)) s) 19)
+          ≡ passing b (callRefusal job x m workWords) (λ _. unless (leb (nOf (job .sheet)) u) 19)
+      go true q =
+          let a = accepted (job .sheet) (call-accepted job x m workWords (eqb-true _ 0 q) .sheet) in
+          ap (λ b. unless b 19) (enough (nOf (job .sheet)) u s eu (a .head .n-small))
+      go false q = refl
+
+  -- the counts of an answer, read anywhere
+  counts-alike : nOf (job .sheet) ≤ s → nOf (job .sheet) ≤ u → (a : Answer) (i : ℕ)
+      → getD (countsFor job s a) i 0 ≡ getD (countsFor job u a) i 0
+  unfolding countOf
+  counts-alike hs hu (plan p t) i = one s hs i ∙ sym (one u hu i)
+    where
+      one : (y : ℕ) → nOf (job .sheet) ≤ y → (i : ℕ) → getD (tabulate y (countOf job)) i 0 ≡ countOf job i
+      one y h = getD-tabled y (nOf (job .sheet)) (countOf job) h
+          (λ i g. ap (λ b. cond b (plansWith job i) 0) (le-ltb i (nOf (job .sheet)) g))
+  counts-alike hs hu (none t) i = one s hs i ∙ sym (one u hu i)
+    where
+      one : (y : ℕ) → nOf (job .sheet) ≤ y → (i : ℕ) → getD (tabulate y (countOf job)) i 0 ≡ countOf job i
+      one y h = getD-tabled y (nOf (job .sheet)) (countOf job) h
+          (λ i g. ap (λ b. cond b (plansWith job i) 0) (le-ltb i (nOf (job .sheet)) g))
+  counts-alike hs hu (stopped t) i = zeros-at s i ∙ sym (zeros-at u i)
+
+  pub counting-alike : AlikeCounting (countingOutcome job x r s workWords) (countingOutcome job x m u workWords)
+  counting-alike = go (eqb (countingRefusal job x m u workWords) 0) refl
+    where
+      go : (b : Bool) → eqb (countingRefusal job x m u workWords) 0 ≡ b
+          → AlikeCounting (countingOutcome job x r s workWords) (countingOutcome job x m u workWords)
+      go true q =
+          let e = eqb-true (countingRefusal job x m u workWords) 0 q in
+          let f = same-cause ∙ e in
+          let a = answer (x .limit) (longerTreeOf job x) in
+          let p = causes-passed job x m u workWords e in
+          let p′ = causes-passed job x r s workWords f in
+          let o : Alike (outcomeOf job r a) (outcomeOf job m a) =
+          rw (
+            outcome-accepted job (counting x) r workWords (cause-same job x r s workWords ∙ p′ .0),
+            outcome-accepted job (counting x) m workWords (cause-same job x m u workWords ∙ p .0),
+          ) at (lent-alike job (counting x) m r em) in
+          rw (counting-accepted job x r s workWords f, counting-accepted job x m u workWords e)
+          (record { outcome = o; counts = counts-alike (p′ .1) (p .1) a })
+      go false q =
+          let ne = eqb-false (countingRefusal job x m u workWords) 0 q in
+          rw (
+            counting-refused job x r s workWords (λ i. ne (sym same-cause ∙ i)),
+            counting-refused job x m u workWords ne,
+          )
+          (record {
+            outcome = record {
+              answer = same-cause;
+              nodes = refl;
+              cells = λ i. zeros-at r i ∙ sym (zeros-at m i);
+            };
+            counts = λ i. zeros-at s i ∙ sym (zeros-at u i);
+          })
+
+-- what the caller is handed
+pub counts-handed : {o p : CountingOutcome} {room space r : ℕ} {cells counts : List ℕ} → AlikeCounting o p
+    → CountsHanded o room space r cells counts → CountsHanded p room space r cells counts
+unfolding countBytes countByte
+counts-handed {o} {p} {space = space} h H = record {
+  handed = alike-handed (h .outcome) (H .handed);
+  bytes = H .bytes ∙ tabulate-same space (countByte (o .counts)) (countByte (p .counts))
+      (λ i l. ap (λ v. v / 256 ^ (i % 8) % 256) (h .counts (i / 8)));
+}

@@ -1,0 +1,44 @@
+-- `count_bytes::count_into` meets its contract.
+use borrow.Author.Needs.{needs}
+use denote.Ref.{now}
+use mathlib.Core.Path.{ap, _∙_}
+use lib.ListN.{length}
+use Rattle.rules.specs.Job.{jobWith}
+use Rattle.setting.specs.Setting.{settingOf}
+use Rattle.work_words.specs.Layout.{workWords}
+use Rattle.byte_calls.proofs.Handed.{gives-handed}
+use Rattle.counting.specs.Outcome.{countingOutcome}
+use Rattle.count_bytes.specs.CountBytes.{countBytes}
+use Rattle.count_bytes.proofs.count_into.Statement.{statement}
+use Rattle.count_bytes.proofs.count_into.Tie as tie
+
+returns : tie.Need-returns
+returns c =
+    let t = c .before .before .before in
+    let p = t .before .before .before .before .before in
+    let n = p .before .before .before .before .before .before .before .before in
+    let a = n .before .before .before .before .before .before .before .before .before .before .before .args in
+    let x = settingOf (a .options) (now (a .classes)) in
+    let job = jobWith (now (a .sheet)) (now (a .channels)) in
+    let o = countingOutcome job x (length (now (a .cells))) (length (now (a .counts))) workWords in
+    record {
+      handed = gives-handed {o = o .outcome} (n .count .ensures .given .gives) (c .number .ensures)
+          (p .put-cells .ensures);
+      bytes = t .put-counts .ensures
+          ∙ ap (λ l. countBytes l (length (now (a .tally)))) (n .count .ensures .given .counted);
+    }
+
+pub count-into-spec : {M : Type 1} → statement M
+count-into-spec =
+    tie.close
+    (tie.spec
+    (λ c. search needs)
+    (λ c κs. search needs)
+    (λ c κs. search needs)
+    (λ c κs. search needs)
+    (λ c κs. search needs)
+    (λ c. search needs)
+    (λ c. search needs)
+    (λ c. search needs)
+    (λ c. search needs)
+    returns)
