@@ -1,6 +1,5 @@
 -- Demands 1 and 3 of the definitions. (Demand 2 is `Demand2` of the crate graph.)
 use mathlib.Core.Path.{_≡_}
-use mathlib.Core.List.{List}
 use Prim.Native.Nat.{ℕ, _≤_, _<_, min}
 use Rattle.sheet.specs.Sheet.{kOf}
 use Rattle.rules.specs.Job.{Job}

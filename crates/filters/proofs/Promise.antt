@@ -2,7 +2,7 @@
 -- them agree, whatever the order of their strikes.
 use mathlib.Core.Path.{_≡_, sym, ap, subst, _∙_, fun-ext}
 use mathlib.Core.Bool.{true, false}
-use Prim.Native.Nat.{ℕ, _≤_, _<_}
+use Prim.Native.Nat.{ℕ}
 use Rattle.sets.specs.Sets.{Set, _⊆_}
 use Rattle.sets.proofs.Tests.{clash, is-false, iff}
 use Rattle.cliques.specs.Graph.{Graph, At, isOpen, Clique, cliqueSet}
@@ -45,7 +45,8 @@ module _ (G : Graph) where
   greatest-promise P F g f = record {
     strikes = g .strikes;
     keeps = λ d L c p. let q = clique-set d L c p in
-        clique-sub G d (cliqueSet G d c) (F d L) c (g .keeps d L (cliqueSet G d c) (clique-open G d (cliqueSet G d c) c q)
+        clique-sub G d (cliqueSet G d c) (F d L) c
+        (g .keeps d L (cliqueSet G d c) (clique-open G d (cliqueSet G d c) c q)
         (f d L c p) (set-sub d L c p)) q;
     refines = greatest-mono P F g;
   }

@@ -15,8 +15,7 @@ use Rattle.sets.proofs.Tests.{clash, bool, is-false, and-l, and-r, and-in, or-l
 use Rattle.sets.proofs.Below.{all-in, all-out, all-same, any-in, first-lt, first-is, first-found}
 use Rattle.channels.specs.Channels.{channelsOk, onAir}
 use Rattle.sheet_rows.specs.Rows.{linkFirst, linkCount, freq}
-use Rattle.sheet.specs.Sheet.{kOf, nOf, qOf, tOf, freqPart, rulePart, pairPart, mostKHz, freqOk, linkFreqsOk}
-use Rattle.sheet.specs.Sheet.{freqsOk}
+use Rattle.sheet.specs.Sheet.{kOf, nOf, qOf, tOf, freqPart, rulePart, pairPart, mostKHz, freqOk, linkFreqsOk, freqsOk}
 use Rattle.sheet.specs.Refusal.{passing, refusal}
 use Rattle.sheet.proofs.Accepted.{accepted, refusal-most}
 use Rattle.rules.specs.Job.{Job, jobOf, struck, unstruck}
@@ -25,8 +24,7 @@ use Rattle.spacing.specs.Spacing.{zeroOrMore}
 use Rattle.pair_test.specs.Pairs.{spare}
 use Rattle.pair_test.specs.Parts.{Parts}
 use Rattle.rules.specs.Plans.{placeOf, hasFreq, vertexOf, inLists, spareTaken, pairKept, linkKept, keeps, cellsOf}
-use Rattle.rules.specs.Plans.{keepsSheet}
-use Rattle.rules.specs.Plans.{clear, keepsJob, yesNo, checked}
+use Rattle.rules.specs.Plans.{keepsSheet, clear, keepsJob, yesNo, checked}
 use Rattle.pair_test.proofs.Laws.{layer-of, layer-in, in-link-lt, parts-of}
 use Rattle.rules.proofs.Laws.{vertex-in, listed-at}
 use Rattle.pair_test.proofs.Pairing.{spare-turned}

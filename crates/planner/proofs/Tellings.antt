@@ -115,14 +115,16 @@ module _ {job : Job} {x : Setting} {place : Place} {layers : ℕ} {p p′ c c′
 
   pub tells : Tells out (answer (x .limit) (treeOf job x))
   unfolding treeOf
-  tells = subst (λ L. Tells out (answer (x .limit) (tree (x .counts) (x .filter) (graphIn job x) (layer job) L))) (F .root yes)
+  tells = subst (λ L. Tells out (answer (x .limit) (tree (x .counts) (x .filter) (graphIn job x) (layer job) L)))
+      (F .root yes)
       (S .says (graphIn job x) (layer job) (F .by-class yes) (F .by-layer yes))
 
   cells-are : Cells (x .counts) 0 (kOf (job .sheet)) c c′ (answer (x .limit) (treeOf job x))
   unfolding treeOf
   cells-are = subst (λ k. Cells (x .counts) 0 k c c′
       (answer (x .limit) (tree (x .counts) (x .filter) (graphIn job x) (layer job) (unstruck job)))) links
-      (subst (λ L. Cells (x .counts) 0 (place .k) c c′ (answer (x .limit) (tree (x .counts) (x .filter) (graphIn job x) (layer job) L)))
+      (subst (λ L. Cells (x .counts) 0 (place .k) c c′
+      (answer (x .limit) (tree (x .counts) (x .filter) (graphIn job x) (layer job) L)))
       (F .root yes) (S .cells (graphIn job x) (layer job) (F .by-class yes) (F .by-layer yes)))
 
   good : AllOf (Clique (graphIn job x) 0 (unstruck job)) (answer (x .limit) (treeOf job x))

@@ -76,7 +76,8 @@ FirstCause job options m w Fine = (kOf (job .sheet) ≤ m)
     × ((on : Bool) (callers : List ℕ) → Passed job (settingWith on options callers) w)
 
 -- the words are laid out and filled, as `Filled` says
-pub record Prepared (job : Job) (options : Options) (callers : List ℕ) (w : ℕ) (work : List ℕ) (r : SetUp) : Type 0 where
+pub record Prepared (job : Job) (options : Options) (callers : List ℕ) (w : ℕ) (work : List ℕ)
+    (r : SetUp) : Type 0 where
   pub laid : LaidOut (r .place) (r .layers) w
   pub freqs : r .place .n ≡ nOf (job .sheet)
   pub links : r .place .k ≡ kOf (job .sheet)

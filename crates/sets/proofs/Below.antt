@@ -135,7 +135,8 @@ pub first-same : (m : ℕ) (p q : ℕ → Bool) → ((i : ℕ) → i < m → p i
 first-same m p q f = bool (any m q)
     (λ t. let l = first-lt m q t in first-found m (first m q) p l
     (is-false (any (first m q) p) (λ u. let i = first (first m q) p in let h = first-lt (first m q) p u in
-    clash (p i) (first-is (first m q) p u) (f i (omega arith) ∙ first-least m q i h))) (f (first m q) l ∙ first-is m q t))
+    clash (p i) (first-is (first m q) p u) (f i (omega arith) ∙ first-least m q i h)))
+    (f (first m q) l ∙ first-is m q t))
     (λ t. first-none m p (any-same m p q f ∙ t) ∙ sym (first-none m q t))
 
 -- sums
@@ -180,12 +181,15 @@ sum-mono zero f g h = omega arith
 sum-mono (suc m) f g h = let r = sum-mono m f g (λ i l. h i (omega arith)) in let q = h m (omega arith) in omega arith
 
 -- one of the numbers, and the others
-pub sum-without : (m i : ℕ) (f g : ℕ → ℕ) → i < m → g i ≡ 0 → ((j : ℕ) → j < m → (j ≡ i → ⊥) → f j ≡ g j) → sumTo m f ≡ f i + sumTo m g
+pub sum-without : (m i : ℕ) (f g : ℕ → ℕ) → i < m → g i ≡ 0 → ((j : ℕ) → j < m → (j ≡ i → ⊥) → f j ≡ g j)
+    → sumTo m f ≡ f i + sumTo m g
 unfolding sumTo
 sum-without zero i f g l z h = absurd (omega arith)
 sum-without (suc m) i f g l z h = below i m l
-    (λ a. let r = sum-without m i f g a z (λ j b. h j (omega arith)) in let q = h m (omega arith) (λ e. omega arith) in omega arith)
-    (λ e. let r = sum-same m f g (λ j b. h j (omega arith) (λ q. omega arith)) in let q : g m ≡ 0 = rw e at z in rw e (omega arith))
+    (λ a. let r = sum-without m i f g a z (λ j b. h j (omega arith)) in let q = h m (omega arith) (λ e. omega arith) in
+    omega arith)
+    (λ e. let r = sum-same m f g (λ j b. h j (omega arith) (λ q. omega arith)) in let q : g m ≡ 0 = rw e at z in
+    rw e (omega arith))
 
 -- counts
 

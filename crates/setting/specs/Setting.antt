@@ -5,8 +5,8 @@ use Prim.Native.Nat.{ℕ}
 use lib.Dec.{ltb, leb}
 use Rattle.setting.specs.declared.Options.{Options}
 
--- filter number, partition choice, limit on the nodes, the caller's list of classes, and whether the run is asked for the
--- plans left for each frequency
+-- filter number, partition choice, limit on the nodes, the caller's list of classes, and whether the run is asked for
+-- the plans left for each frequency
 pub record Setting : Type 0 where
   pub filter : ℕ
   pub choice : ℕ

@@ -23,7 +23,8 @@ fine : (c : tie.After-enum-told) → refusal (now (c .before .before .before .be
 fine c = sym (c .before .before .check-sheet .ensures) ∙ ap numberOf (c .enum-told .given .1)
 
 okay : (c : tie.Else1) →
-    (let o = c .before .before .before .before .before .before .before .args .options in inRange (o .filter) (o .choice) (o .limit) ≡ true)
+    (let o = c .before .before .before .before .before .before .before .args .options in
+    inRange (o .filter) (o .choice) (o .limit) ≡ true)
 okay c = sym (c .before .is-in-range .ensures) ∙ not-false (c .before .is-in-range .result) (c .if1 .left)
 
 returns : tie.Need-returns

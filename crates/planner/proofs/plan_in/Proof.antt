@@ -11,7 +11,8 @@ use Rattle.planner.proofs.plan_in.Tie as tie
 returns : tie.Need-returns
 returns c =
     let u = c .before .before .before .before .before in
-    list-gives (u .before .before .before .before .before .before .before .before .pre) (u .set-up .ensures .filled false) (c .before .if1 .taken) (c .refused .ensures)
+    list-gives (u .before .before .before .before .before .before .before .before .pre)
+    (u .set-up .ensures .filled false) (c .before .if1 .taken) (c .refused .ensures)
 
 search-setting-requires : tie.Need-search-setting-requires
 search-setting-requires c κs =

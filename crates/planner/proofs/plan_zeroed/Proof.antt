@@ -1,15 +1,15 @@
 -- `planner::plan_zeroed` meets its contract: it is refused, or planned with a chosen vertex for each link.
 use borrow.Author.Needs.{needs}
 use denote.Ref.{now}
-use mathlib.Core.Path.{_≡_, refl, sym, subst, _∙_}
+use mathlib.Core.Path.{refl, sym, subst, _∙_}
 use mathlib.Core.Bool.{false}
 use native.Mathlib.Omega.{arith}
 use lib.ListN.{length}
 use lib.Seq.{length-take-le}
 use Rattle.sheet.proofs.Accepted.{accepted}
 use Rattle.rules.specs.Job.{Job, jobWith}
-use Rattle.setting.specs.Setting.{Setting, settingOf}
-use Rattle.planner.specs.Planned.{verdictNumber, FirstCause}
+use Rattle.setting.specs.Setting.{settingOf}
+use Rattle.planner.specs.Planned.{FirstCause}
 use Rattle.planner.specs.declared.Asked.{Asked}
 use Rattle.planner.specs.declared.Asked.the-variants.{Fine}
 use Rattle.planner.proofs.Outcomes.{gives-refused}
@@ -26,7 +26,8 @@ Causes s = FirstCause (job s) (s .args .options) (length (now (s .args .cells)))
 -- no cause was found
 fine : (c : tie.After-enum-told) → Causes (c .before .before .before .before .before .before .before .before) Fine
 fine c = let f = c .before .before in
-    subst (Causes (f .before .before .before .before .before .before)) (c .enum-told .given .1) (f .first-cause .ensures)
+    subst (Causes (f .before .before .before .before .before .before)) (c .enum-told .given .1)
+    (f .first-cause .ensures)
 
 returns : tie.Need-returns
 returns c =

@@ -1,8 +1,8 @@
--- `planner::set_up` meets its contract: the class list has a byte for each vertex. What the words hold does not depend on
--- whether counts are asked for.
+-- `planner::set_up` meets its contract: the class list has a byte for each vertex. What the words hold does not depend
+-- on whether counts are asked for.
 use borrow.Author.Needs.{needs}
 use denote.Ref.{now}
-use mathlib.Core.Path.{_≡_, sym, _∙_}
+use mathlib.Core.Path.{sym}
 use mathlib.Core.Bool.{Bool}
 use mathlib.Core.List.{List}
 use Prim.Native.Nat.{ℕ}
