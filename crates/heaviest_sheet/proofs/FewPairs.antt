@@ -1,7 +1,7 @@
 -- The sheet of the heaviest job has few pairs: every rule is with the last link, and each vertex of the other link has
 -- at most two partners there.
 use mathlib.Core.Path.{_≡_, refl, sym, ap, _∙_}
-use mathlib.Core.Bool.{Bool, true, false, not, _&&_}
+use mathlib.Core.Bool.{Bool, true, false, not, _&&_, and-false}
 use mathlib.Core.List.{List}
 use Prim.Native.Nat.{ℕ, zero, suc, _+_, _-_, _*_, _/_, _%_, _≤_, _<_}
 use native.Mathlib.Omega.{arith}
@@ -10,7 +10,7 @@ use lib.Dec.{ltb, eqb}
 use lib.ListN.{length}
 use borrow.Author.Tests.{lt-ltb, le-ltb, ltb-true, ltb-false, eq-eqb, ne-eqb, eqb-true, eqb-false}
 use Rattle.sets.specs.Below.{count, sumTo}
-use Rattle.sets.proofs.Tests.{clash, bool, and-l, and-r, and-false, not-out}
+use Rattle.sets.proofs.Tests.{clash, bool, and-l, and-r, not-out}
 use Rattle.sets.proofs.Below.{count-add, count-within, count-just, one-mono}
 use Rattle.sheet.specs.Sheet.{mostPairs}
 use Rattle.dimacs.specs.Reading.{countOf}
@@ -42,9 +42,6 @@ count-ends (suc m) p h =
     (λ e. clash (p y) t (h y (omega arith) (eqb-false y 0 e) (λ q. omega arith)))) in
     let b = one-mono (p m) true (λ _. refl) in
     omega (arith, a .0)
-
-and-none : (b : Bool) → (b && false) ≡ false
-and-none b = and-false b false refl
 
 sum-most : (l c : ℕ) (f : ℕ → ℕ) → ((i : ℕ) → i < l → f i ≤ c) → sumTo l f ≤ l * c
 unfolding sumTo
@@ -108,7 +105,7 @@ module _ (k m : ℕ) (Z : SizesFit k m) where
         let not-first = ne-eqb y 0 first in
         let not-last = ne-eqb (y + 1) m last in
         pair-is x y h g
-        ∙ simp (code-first m b y g, code-second m b y g, late, not-first, not-last, and-none) refl
+        ∙ simp (code-first m b y g, code-second m b y g, late, not-first, not-last, and-false) refl
 
     few-joined : b + 1 ≡ k → length (pairsOf cs adj a b) ≤ m * 2
     few-joined e =
