@@ -85,7 +85,8 @@ unfolding Choice.classList Partition.layersOf Partition.degree Partition.addDegr
 openPartition = tt
 
 unfoldable pub openPlanner : Unit {0}
-unfolding Tree.plus Tree.choose Tree.andThen Tree.inTurn Tree.node Root.root Root.rootSet Root.entered Root.tree Zeros.zeros
+unfolding Tree.plus Tree.choose Tree.andThen Tree.inTurn Tree.node Root.root Root.rootSet Root.entered
+    Root.tree Zeros.zeros
     Cells.cellOf Cells.planCells
     Setting.inRange Classes.listOk Classes.classesOf Outcome.settingCause Outcome.callRefusal Outcome.treeOf
     Outcome.outcome

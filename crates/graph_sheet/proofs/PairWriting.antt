@@ -13,12 +13,12 @@ use Rattle.dimacs.specs.Lists.{select, forEach, joinTo}
 use Rattle.dimacs.specs.Reading.{countOf}
 use Rattle.dimacs.specs.Made.{pairRow, pairsOf, isRuled, rulePairRows, pairRows}
 use Rattle.dimacs.proofs.Lists.{each-select}
-use Rattle.dimacs.proofs.Codes.{code-first, code-second}
+use Rattle.dimacs.proofs.Codes.{code-first, code-second, row-after}
 use Rattle.graph_sheet.specs.Rows.{pairRowIn, pairRowsIn, pairRowsAt}
 use Rattle.graph_sheet.specs.Pairs.{TwoOf, joinedIn, joinedAt, pairsIn, RuleTold}
 use Rattle.graph_sheet.specs.declared.joins.RuleAt.{RuleAt}
 use Rattle.graph_sheet.specs.declared.joins.Two.{Two}
-use Rattle.graph_sheet.proofs.Pairing.{row-after, code-joined, pairs-same}
+use Rattle.graph_sheet.proofs.Pairing.{code-joined, pairs-same}
 use Rattle.graph_sheet.proofs.Ruling.{placeOf, total-is, pairs-row-is}
 use Rattle.graph_sheet.proofs.Writing.{put-yes, put-no, cond-same}
 

@@ -2,23 +2,23 @@
 use mathlib.Core.Path.{_≡_, refl, sym, ap, subst, _∙_}
 use mathlib.Core.Bool.{Bool, false, not, _&&_, _||_}
 use mathlib.Core.List.{List}
-use Prim.Native.Nat.{ℕ, zero, suc, _+_, _*_, _/_, _%_, _≤_, _<_}
+use Prim.Native.Nat.{ℕ, _+_, _*_, _/_, _%_, _≤_, _<_}
 use native.Mathlib.Numerals.{add-one}
 use native.Mathlib.Omega.{arith}
-use native.Mathlib.Nat.{mul-le-mul, mul-comm, mul-suc}
+use native.Mathlib.Nat.{mul-le-mul}
 use lib.Dec.{eqb}
 use lib.ListN.{length, take, getD, set, length-set}
 use lib.Seq.{getD-take, getD-set-same, getD-set-other, length-take-le}
 use borrow.Author.Tests.{lt-ltb, le-ltb}
 use Rattle.sets.specs.Sets.{Set}
 use Rattle.sets.specs.Below.{one, count, sumTo}
-use Rattle.sets.proofs.Below.{count-add, count-same, count-le, sum-more}
+use Rattle.sets.proofs.Below.{count-le, sum-more}
 use Rattle.sets.proofs.Tests.{clash, below}
 use Rattle.dimacs.specs.Lists.{select}
 use Rattle.dimacs.specs.Reading.{countOf, firstOf}
 use Rattle.dimacs.specs.Made.{joined, isPair, pairsOf, isFull, isRuled}
 use Rattle.dimacs.proofs.Lists.{select-length}
-use Rattle.dimacs.proofs.Codes.{code-first, code-second, first-lt, second-lt}
+use Rattle.dimacs.proofs.Codes.{code-first, code-second, first-lt, second-lt, count-rows}
 use Rattle.graph_read.specs.Graphs.{CodesFit}
 use Rattle.graph_read.proofs.Firsts.{first-within}
 use Rattle.graph_sheet.specs.Pairs.{GraphIn, FirstsTo, GraphLaid, countsIn}
@@ -101,21 +101,6 @@ count-more p f t e = rw (add-one, e, t, f)
 
 pub count-all : {m : ℕ} (p : ℕ → Bool) (z w : ℕ) → z ≡ w → m ≡ count z p → m ≡ count w p
 count-all p z w e f = f ∙ ap (λ x. count x p) e
-
--- rows of w numbers, one after another
-
-pub row-after : (l w : ℕ) → suc l * w ≡ l * w + w
-row-after l w = mul-comm (suc l) w ∙ mul-suc w l ∙ ap (λ x. x + w) (mul-comm w l)
-
-count-rows : (l w : ℕ) (q : ℕ → Bool) (r : ℕ → ℕ → Bool) → ((x y : ℕ) → y < w → q (x * w + y) ≡ r x y)
-    → sumTo l (λ x. count w (r x)) ≡ count (l * w) q
-unfolding sumTo count
-count-rows zero w q r h = let e : 0 * w ≡ 0 = omega arith in rw e refl
-count-rows (suc l) w q r h =
-    rw (row-after l w)
-    (ap (λ x. x + count w (r l)) (count-rows l w q r h)
-    ∙ ap (λ x. count (l * w) q + x) (sym (count-same w (λ y. q (l * w + y)) (r l) (h l)))
-    ∙ sym (count-add (l * w) w q))
 
 module _ (adj : ℕ → ℕ → Bool) (p : Two) where
   -- the pairs of the rows below x

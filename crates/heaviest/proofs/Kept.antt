@@ -1,6 +1,6 @@
 -- The graph of the heaviest job, as it is kept in words.
 use mathlib.Core.Path.{_≡_, refl, sym, ap, _∙_, fun-ext}
-use mathlib.Core.Bool.{Bool, true, false, _&&_, _||_}
+use mathlib.Core.Bool.{Bool, true, false, _&&_, _||_, and-true, and-false, or-false}
 use mathlib.Core.List.{List, _++_}
 use Prim.Native.Nat.{ℕ, _+_, _*_, _/_, _%_, _≤_, _<_}
 use native.Mathlib.Omega.{arith}
@@ -11,13 +11,12 @@ use lib.Seq.{take-at}
 use borrow.Author.Tests.{eq-eqb, ne-eqb, lt-ltb, le-ltb, ltb-true, ltb-false, eqb-true, eqb-false}
 use Rattle.sets.specs.Below.{tabulate}
 use Rattle.sets.specs.Sets.{Set, _∪_, just, nothing}
-use Rattle.sets.proofs.Tests.{bool, and-l, and-r, and-false}
+use Rattle.sets.proofs.Tests.{bool, and-l, and-r}
 use Rattle.sets.proofs.Lists.{length-tabulate}
 use Rattle.dimacs.specs.Made.{joined}
 use Rattle.dimacs.proofs.Codes.{code-lt, first-lt, second-lt}
 use Rattle.heaviest_sheet.specs.Written.{links, isLast, meets, isEdge, edges, graph}
 use Rattle.heaviest_sheet.specs.Call.{SizesFit}
-use Rattle.heaviest_sheet.proofs.Links.{or-none}
 use Rattle.heaviest.specs.Words.{upTo}
 
 -- the counts: those of the first l links are set
@@ -97,19 +96,15 @@ module _ (S E : Set) (z : ℕ) (e : S ≡ upTo z E) where
       (λ y. let i = eqb-true v z y in
       rw (y, i, le-ltb z z (omega arith), lt-ltb z (z + 1) (omega arith)) q)
       (λ n. let ne = eqb-false v z n in bool (ltb v z)
-      (λ l. let h = ltb-true v z l in rw (n, l, lt-ltb v (z + 1) (omega arith)) (or-none (E v)))
+      (λ l. let h = ltb-true v z l in rw (n, l, lt-ltb v (z + 1) (omega arith)) (or-false (E v)))
       (λ l. let h = ltb-false v z l in rw (n, l, le-ltb v (z + 1) (omega arith)) refl)))
 
   pub kept-not : false ≡ E z → S ≡ upTo (z + 1) E
-  kept-not f = split false S f (λ v. sym (ap (λ b. S v || b) (and-false (eqb v z) false refl) ∙ or-none (S v)))
+  kept-not f = split false S f (λ v. sym (ap (λ b. S v || b) (and-false (eqb v z)) ∙ or-false (S v)))
 
   pub kept-more : {T : Set} → T ≡ S ∪ just z → true ≡ E z → T ≡ upTo (z + 1) E
   unfolding _∪_ just
-  kept-more {T} q t = split true T t (λ v. ap (λ (U : Set). U v) q ∙ ap (λ b. S v || b) (and-true (eqb v z)))
-    where
-      and-true : (x : Bool) → x ≡ (x && true)
-      and-true true = refl
-      and-true false = refl
+  kept-more {T} q t = split true T t (λ v. ap (λ (U : Set). U v) q ∙ ap (λ b. S v || b) (sym (and-true (eqb v z))))
 
 -- all codes of n vertices
 pub kept-all : (n z : ℕ) (S E : Set) → z ≡ n * n → S ≡ upTo z E → joined n S ≡ joined n E

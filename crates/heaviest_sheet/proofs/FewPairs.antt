@@ -1,7 +1,7 @@
 -- The sheet of the heaviest job has few pairs: every rule is with the last link, and each vertex of the other link has
 -- at most two partners there.
 use mathlib.Core.Path.{_≡_, refl, sym, ap, _∙_}
-use mathlib.Core.Bool.{Bool, true, false, not, _&&_}
+use mathlib.Core.Bool.{Bool, true, false, not, _&&_, and-false}
 use mathlib.Core.List.{List}
 use Prim.Native.Nat.{ℕ, zero, suc, _+_, _-_, _*_, _/_, _%_, _≤_, _<_}
 use native.Mathlib.Omega.{arith}
@@ -10,27 +10,28 @@ use lib.Dec.{ltb, eqb}
 use lib.ListN.{length}
 use borrow.Author.Tests.{lt-ltb, le-ltb, ltb-true, ltb-false, eq-eqb, ne-eqb, eqb-true, eqb-false}
 use Rattle.sets.specs.Below.{count, sumTo}
-use Rattle.sets.proofs.Tests.{clash, bool, and-l, and-r, and-false, not-out}
-use Rattle.sets.proofs.Below.{count-add, count-within, count-just, one-mono}
+use Rattle.sets.proofs.Tests.{clash, bool, and-l, and-r, not-out}
+use Rattle.sets.proofs.Below.{count-within, count-just, one-mono}
 use Rattle.sheet.specs.Sheet.{mostPairs}
 use Rattle.dimacs.specs.Reading.{countOf}
 use Rattle.dimacs.specs.Made.{isPair, pairsOf, isFull, isRuled, ruledA, ruledB, rulePairs, pairsBefore, ruleTotal}
 use Rattle.dimacs.specs.Made.{pairTotal}
 use Rattle.dimacs.proofs.Lists.{select-length}
-use Rattle.dimacs.proofs.Codes.{code-first, code-second, code-back, code-lt, first-lt, second-lt}
+use Rattle.dimacs.proofs.Codes.{code-first, code-second, code-back, code-lt, first-lt, second-lt, count-rows}
 use Rattle.dimacs.proofs.Accepts.{rule-count, ruled-is}
 use Rattle.heaviest_sheet.specs.Written.{links, isLast, meets, graph}
 use Rattle.heaviest_sheet.specs.Call.{SizesFit}
 use Rattle.heaviest_sheet.proofs.Links.{links-length, links-count, links-first, links-small, graph-is}
 
+sum-most : (l c : ℕ) (f : ℕ → ℕ) → ((i : ℕ) → i < l → f i ≤ c) → sumTo l f ≤ l * c
+unfolding sumTo
+sum-most zero c f h = omega arith
+sum-most (suc l) c f h = omega (arith, sum-most l c f (λ i b. h i (omega arith)), h l (omega arith))
+
 -- rows of w numbers, of which at most c pass in each
-count-rows : (l w c : ℕ) (p : ℕ → Bool) → ((x : ℕ) → x < l → count w (λ y. p (x * w + y)) ≤ c) → count (l * w) p ≤ l * c
-unfolding count
-count-rows zero w c p h = let e : 0 * w ≡ 0 = omega arith in rw e (omega arith)
-count-rows (suc l) w c p h =
-    let e : suc l * w ≡ l * w + w = omega arith in
-    let a = count-rows l w c p (λ x b. h x (omega arith)) in
-    rw e (omega (arith, count-add (l * w) w p, h l (omega arith)))
+rows-most : (l w c : ℕ) (p : ℕ → Bool) → ((x : ℕ) → x < l → count w (λ y. p (x * w + y)) ≤ c) → count (l * w) p ≤ l * c
+rows-most l w c p h = let q = count-rows l w p (λ x y. p (x * w + y)) (λ x y _. refl) in
+    omega (arith, sum-most l c (λ x. count w (λ y. p (x * w + y))) h)
 
 -- only the first and the last number pass
 count-ends : (m : ℕ) (p : ℕ → Bool) → ((y : ℕ) → y < m → (y ≡ 0 → ⊥) → (y + 1 ≡ m → ⊥) → p y ≡ false) → count m p ≤ 2
@@ -42,14 +43,6 @@ count-ends (suc m) p h =
     (λ e. clash (p y) t (h y (omega arith) (eqb-false y 0 e) (λ q. omega arith)))) in
     let b = one-mono (p m) true (λ _. refl) in
     omega (arith, a .0)
-
-and-none : (b : Bool) → (b && false) ≡ false
-and-none b = and-false b false refl
-
-sum-most : (l c : ℕ) (f : ℕ → ℕ) → ((i : ℕ) → i < l → f i ≤ c) → sumTo l f ≤ l * c
-unfolding sumTo
-sum-most zero c f h = omega arith
-sum-most (suc l) c f h = omega (arith, sum-most l c f (λ i b. h i (omega arith)), h l (omega arith))
 
 module _ (k m : ℕ) (Z : SizesFit k m) where
   abbrev cs : List ℕ
@@ -108,11 +101,11 @@ module _ (k m : ℕ) (Z : SizesFit k m) where
         let not-first = ne-eqb y 0 first in
         let not-last = ne-eqb (y + 1) m last in
         pair-is x y h g
-        ∙ simp (code-first m b y g, code-second m b y g, late, not-first, not-last, and-none) refl
+        ∙ simp (code-first m b y g, code-second m b y g, late, not-first, not-last, and-false) refl
 
     few-joined : b + 1 ≡ k → length (pairsOf cs adj a b) ≤ m * 2
     few-joined e =
-        let rows = count-rows m m 2 (isPair cs adj a b)
+        let rows = rows-most m m 2 (isPair cs adj a b)
         (λ x h. count-ends m (λ y. isPair cs adj a b (x * m + y)) (λ y g. pair-none e x y h g)) in
         omega (arith, pairs-count)
 
@@ -126,7 +119,7 @@ module _ (k m : ℕ) (Z : SizesFit k m) where
   unfolding isRuled
   few-rules =
       let n = links-length k m in
-      let rows = count-rows (length cs) (length cs) 1 (isRuled cs adj) row in
+      let rows = rows-most (length cs) (length cs) 1 (isRuled cs adj) row in
       omega (arith, rule-count cs adj (links-small k m Z))
     where
       row : (a : ℕ) → a < length cs → count (length cs) (λ b. isRuled cs adj (a * length cs + b)) ≤ 1

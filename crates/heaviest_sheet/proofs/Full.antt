@@ -1,6 +1,6 @@
 -- The graph of the heaviest job is full, in any classes that are its links.
 use mathlib.Core.Path.{_≡_, refl, sym, ap, _∙_}
-use mathlib.Core.Bool.{Bool, true, false, _&&_, _||_}
+use mathlib.Core.Bool.{Bool, true, false, _&&_, _||_, or-true}
 use Prim.Native.Nat.{ℕ, suc, _+_, _-_, _*_, _/_, _%_, _≤_, _<_}
 use native.Mathlib.Omega.{arith}
 use native.Mathlib.Nat.{mul-le-mul-right}
@@ -80,10 +80,6 @@ module _ (z m : ℕ) (Z : SizesFit (suc z) m) where
       graph-is (suc z) m Z u (z * m) a (omega arith) (omega arith)
       ∙ rw (e, le-ltb (z + 1) (suc z) (omega arith), y, lt-ltb (u / m + 2) (suc z) (omega arith))
       (or-true (isLast m u && isLast m (z * m)))
-    where
-      or-true : (b : Bool) → (b || true) ≡ true
-      or-true true = refl
-      or-true false = refl
 
   other-parted : (u v : ℕ) → u < n → v < n → suc (u / m) ≡ z → v / m ≡ z → (v ≡ x → ⊥) → graph (suc z) m u v ≡ false
   unfolding meets

@@ -1,6 +1,6 @@
 -- The links of the heaviest job, and which of its vertices are adjacent.
-use mathlib.Core.Path.{_≡_, refl, sym, ap, subst, _∙_}
-use mathlib.Core.Bool.{Bool, true, false, _||_}
+use mathlib.Core.Path.{_≡_, sym, ap, subst, _∙_}
+use mathlib.Core.Bool.{or-false}
 use Prim.Native.Nat.{ℕ, zero, suc, _+_, _-_, _*_, _/_, _%_, _≤_, _<_}
 use native.Mathlib.Omega.{arith}
 use native.Mathlib.Nat.{mod-lt, mul-le-mul-right}
@@ -20,10 +20,6 @@ use Rattle.dimacs.proofs.Adjacent.{Joins, layer-has, has-graph}
 use Rattle.dimacs.proofs.Sound.{Apart, joined-joins}
 use Rattle.heaviest_sheet.specs.Written.{links, meets, isEdge, edges, graph, sheet}
 use Rattle.heaviest_sheet.specs.Call.{SizesFit}
-
-pub or-none : (b : Bool) → (b || false) ≡ b
-or-none true = refl
-or-none false = refl
 
 -- the link of a vertex, by where it starts
 pub link-is : (m l v : ℕ) → l * m ≤ v → v < l * m + m → v / m ≡ l
@@ -108,4 +104,4 @@ module _ (k m : ℕ) where
           lt-ltb (u / m) (v / m) h,
           le-ltb (v / m) (u / m) (omega arith),
         )
-        (or-none (meets k m u v))
+        (or-false (meets k m u v))

@@ -10,11 +10,11 @@ use Rattle.heaviest_sheet.specs.Call.{sizesOk, SizesFit}
 pub sizes : (k m : ℕ) → sizesOk k m ≡ true → SizesFit k m
 unfolding sizesOk
 sizes k m h =
-    let a = and-l (ltb 0 k && ltb 0 m) (leb k 64 && leb (k * m) 512) h in
-    let b = and-r (ltb 0 k && ltb 0 m) (leb k 64 && leb (k * m) 512) h in
+    let a = and-l (ltb 0 k && ltb 0 m) _ h in
+    let b = and-r (ltb 0 k && ltb 0 m) _ h in
     record {
       k-some = ltb-true 0 k (and-l (ltb 0 k) (ltb 0 m) a);
       m-some = ltb-true 0 m (and-r (ltb 0 k) (ltb 0 m) a);
-      k-few = leb-true k 64 (and-l (leb k 64) (leb (k * m) 512) b);
-      few = leb-true (k * m) 512 (and-r (leb k 64) (leb (k * m) 512) b);
+      k-few = leb-true k _ (and-l (leb k _) _ b);
+      few = leb-true (k * m) _ (and-r (leb k _) _ b);
     }
