@@ -30,6 +30,9 @@ use Rattle.cells.specs.Cells
 use Rattle.setting.specs.Setting
 use Rattle.work_words.specs.Classes
 use Rattle.planner.specs.Outcome
+use Rattle.sets.specs.Choices
+use Rattle.counting.specs.Plans as Counted
+use Rattle.counting.specs.Outcome as Counting
 use Rattle.lines.specs.Lines
 use Rattle.text.specs.Text
 use Rattle.dimacs.specs.Lists
@@ -91,6 +94,11 @@ unfolding Tree.plus Tree.choose Tree.andThen Tree.inTurn Tree.node Root.root Roo
     Setting.inRange Classes.listOk Classes.classesOf Outcome.settingCause Outcome.callRefusal Outcome.treeOf
     Outcome.outcome
 openPlanner = tt
+
+unfoldable pub openCounting : Unit {0}
+unfolding Choices.sumChoices Choices.choices Counted.isPlan Counted.plans Counted.plansWith Counting.countingRefusal
+    Counting.countOf Counting.countingOutcome
+openCounting = tt
 
 unfoldable pub openLines : Unit {0}
 unfolding Lines.ascii Lines.digits Lines.decimal Lines.ending Lines.line

@@ -1,3 +1,4 @@
 pub mod Encode
 pub mod Cases
+pub mod Counting
 pub mod Texts

@@ -64,7 +64,8 @@ pub fn open_root(part: &mut [u64], place: Place, layers: usize, filters: u32) ->
     if !pre_filter(part, by_layers) {
         return false;
     }
-    is_open(part, place, 0)
+    let classes_open = is_open(part, place, 0);
+    classes_open
 }
 
 // Searches the tree of a setting until the first plan. The layers' masks stand from `layers` on.
