@@ -58,11 +58,17 @@ last j h l = omega arith
 returns-9 : tie.Need-returns-9
 unfolding countByte
 returns-9 c =
-    let j = c .before .before .before .before .before .before .before .before .before .args .i % 8 in
-    let h = above 6 j (above 5 j (above 4 j (above 3 j (above 2 j (above 1 j (above 0 j (small j)
-    (c .before .before .before .before .before .before .if2 .left)) (c .before .before .before .before .before .if3 .left)) (c .before .before .before .before .if4 .left)) (c .before .before .before .if5 .left)) (c .before .before .if6 .left))
-    (c .before .if7 .left)) (c .if8 .left) in
-    rw (last j h (mod-lt (c .before .before .before .before .before .before .before .before .before .args .i)))
+    let g = c .before in
+    let f = g .before in
+    let e = f .before in
+    let d = e .before in
+    let b = d .before in
+    let a = b .before in
+    let i = a .before .before .before .args .i in
+    let j = i % 8 in
+    let two = above 1 j (above 0 j (small j) (a .if2 .left)) (b .if3 .left) in
+    let four = above 3 j (above 2 j two (d .if4 .left)) (e .if5 .left) in
+    rw (last j (above 6 j (above 5 j (above 4 j four (f .if6 .left)) (g .if7 .left)) (c .if8 .left)) (mod-lt i))
 
 pub count-byte-spec : {M : Type 1} → statement M
 count-byte-spec =
