@@ -5,6 +5,7 @@ use trial_counts_beside::PLANS_SUM;
 use trial_counts_beside::small_jobs;
 use trial_counts_calls::AGREED;
 use trial_counts_calls::DIFFERED;
+use trial_counts_calls::LEAST;
 use trial_counts_calls::WHERE;
 use trial_counts_rows::item;
 use trial_counts_rows::number;
@@ -61,11 +62,22 @@ fn print_jobs(job: &[usize], m: usize) {
     print_nodes(job, 2);
 }
 
-// `random`: so many small jobs.
+// The calls counted, and where the first differed.
+fn keep_calls(kept: &mut [usize], job: &[usize]) {
+    let mut i = AGREED;
+    while i < LEAST {
+        put(kept, i, get(job, i));
+        i += 1;
+    }
+}
+
+// `random`: so many small jobs, in a table of their own.
 fn random_row(kept: &mut [usize]) {
+    let mut job = [0usize; ROOM];
     let m = next(kept);
-    small_jobs(kept, m);
-    print_jobs(kept, m);
+    small_jobs(&mut job, m);
+    print_jobs(&job, m);
+    keep_calls(kept, &job);
 }
 
 fn print_part(words: &[u8], from: usize, end: usize) {
