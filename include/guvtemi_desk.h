@@ -15,7 +15,7 @@
    Everything else is the callee's: every byte sequence and every number gets an answer.
 
    The calls keep nothing between them, so several threads may call at once, each with outputs of its own. A call of
-   guvtemi_plan_job or guvtemi_count_job takes up to 240 KiB of stack (docs/ASSURANCE.md). */
+   guvtemi_plan_job takes up to 240 KiB of stack, one of guvtemi_count_job up to 280 (docs/ASSURANCE.md). */
 
 #ifndef GUVTEMI_DESK_H
 #define GUVTEMI_DESK_H
