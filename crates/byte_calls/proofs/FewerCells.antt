@@ -3,7 +3,7 @@
 use mathlib.Core.Path.{_≡_, refl, sym, ap, _∙_}
 use mathlib.Core.Bool.{Bool, true, false}
 use mathlib.Core.List.{List}
-use Prim.Native.Nat.{ℕ, zero, suc, _≤_, _/_, _%_, _^_, min}
+use Prim.Native.Nat.{ℕ, _≤_, _/_, _%_, _^_, min}
 use native.Mathlib.Nat.{min-eq-left, min-comm}
 use native.Mathlib.Omega.{arith}
 use lib.Dec.{eqb, ltb, leb}
@@ -21,6 +21,7 @@ use Rattle.rules.specs.Plans.{cellsOf, keepsJob, yesNo, checked}
 use Rattle.graph.proofs.Matches.{keeps-same-job}
 use Rattle.search.specs.Limit.{Answer, plan, none, stopped, answer}
 use Rattle.zeros.specs.Zeros.{zeros}
+use Rattle.zeros.proofs.Zeros.{zeros-at}
 use Rattle.cells.specs.Cells.{cellOf, planCells}
 use Rattle.setting.specs.Setting.{Setting}
 use Rattle.work_words.specs.Layout.{workWords}
@@ -35,14 +36,8 @@ pub record Alike (o p : Outcome) : Type 0 where
   pub nodes : o .nodes ≡ p .nodes
   pub cells : (i : ℕ) → getD (o .cells) i 0 ≡ getD (p .cells) i 0
 
-getD-zeros : (m i : ℕ) → getD (zeros m) i 0 ≡ 0
-unfolding zeros
-getD-zeros zero i = refl
-getD-zeros (suc m) zero = refl
-getD-zeros (suc m) (suc i) = getD-zeros m i
-
 zeros-alike : (m r i : ℕ) → getD (zeros r) i 0 ≡ getD (zeros m) i 0
-zeros-alike m r i = getD-zeros r i ∙ sym (getD-zeros m i)
+zeros-alike m r i = zeros-at r i ∙ sym (zeros-at m i)
 
 -- a tabled function that is 0 from k on, read anywhere
 pub getD-tabled : (m k : ℕ) (f : ℕ → ℕ) → k ≤ m → ((i : ℕ) → k ≤ i → f i ≡ 0) → (i : ℕ) → getD (tabulate m f) i 0 ≡ f i

@@ -17,7 +17,7 @@ use Rattle.sheet.specs.Refusal.{passing, unless}
 use Rattle.sheet.proofs.Accepted.{accepted}
 use Rattle.rules.specs.Job.{Job}
 use Rattle.search.specs.Limit.{Answer, plan, none, stopped, answer}
-use Rattle.zeros.specs.Zeros.{zeros}
+use Rattle.zeros.proofs.Zeros.{zeros-at}
 use Rattle.setting.specs.Setting.{Setting, counting}
 use Rattle.work_words.specs.Layout.{workWords}
 use Rattle.planner.specs.Outcome.{callRefusal, outcomeOf, outcome}
@@ -26,7 +26,7 @@ use Rattle.planner.proofs.Outcomes.{outcome-accepted}
 use Rattle.byte_calls.proofs.FewerCells.{Alike, getD-tabled, lent-cause, lent-alike, alike-handed}
 use Rattle.counting.specs.Plans.{plansWith}
 use Rattle.counting.specs.Outcome.{countingRefusal, longerTreeOf, countOf, countsFor, CountingOutcome, countingOutcome}
-use Rattle.counting.proofs.Outcomes.{cause-same, causes-passed, no-cause, counting-refused, counting-accepted, zeros-at}
+use Rattle.counting.proofs.Outcomes.{cause-same, causes-passed, counting-refused, counting-accepted}
 use Rattle.count_bytes.specs.CountBytes.{countByte, countBytes, CountsHanded}
 
 -- two outcomes that the caller cannot tell apart
@@ -54,20 +54,16 @@ module _ (job : Job) (x : Setting) (m r u s : ℕ) (em : r ≡ min m 64) (eu : s
           ap (λ b. unless b 19) (enough (nOf (job .sheet)) u s eu (a .head .n-small))
       go false q = refl
 
-  -- the counts of an answer, read anywhere
+  -- the counts of a list that is long enough, and of an answer, read anywhere
+  count-at : (y : ℕ) → nOf (job .sheet) ≤ y → (i : ℕ) → getD (tabulate y (countOf job)) i 0 ≡ countOf job i
+  unfolding countOf
+  count-at y h = getD-tabled y (nOf (job .sheet)) (countOf job) h
+      (λ i g. ap (λ b. cond b (plansWith job i) 0) (le-ltb i (nOf (job .sheet)) g))
+
   counts-alike : nOf (job .sheet) ≤ s → nOf (job .sheet) ≤ u → (a : Answer) (i : ℕ)
       → getD (countsFor job s a) i 0 ≡ getD (countsFor job u a) i 0
-  unfolding countOf
-  counts-alike hs hu (plan p t) i = one s hs i ∙ sym (one u hu i)
-    where
-      one : (y : ℕ) → nOf (job .sheet) ≤ y → (i : ℕ) → getD (tabulate y (countOf job)) i 0 ≡ countOf job i
-      one y h = getD-tabled y (nOf (job .sheet)) (countOf job) h
-          (λ i g. ap (λ b. cond b (plansWith job i) 0) (le-ltb i (nOf (job .sheet)) g))
-  counts-alike hs hu (none t) i = one s hs i ∙ sym (one u hu i)
-    where
-      one : (y : ℕ) → nOf (job .sheet) ≤ y → (i : ℕ) → getD (tabulate y (countOf job)) i 0 ≡ countOf job i
-      one y h = getD-tabled y (nOf (job .sheet)) (countOf job) h
-          (λ i g. ap (λ b. cond b (plansWith job i) 0) (le-ltb i (nOf (job .sheet)) g))
+  counts-alike hs hu (plan p t) i = count-at s hs i ∙ sym (count-at u hu i)
+  counts-alike hs hu (none t) i = count-at s hs i ∙ sym (count-at u hu i)
   counts-alike hs hu (stopped t) i = zeros-at s i ∙ sym (zeros-at u i)
 
   pub counting-alike : AlikeCounting (countingOutcome job x r s workWords) (countingOutcome job x m u workWords)

@@ -14,7 +14,7 @@ pub record Setting : Type 0 where
   pub callers : List ℕ
   pub counts : Bool
 
--- the code's numbers with the caller's list; of a run until the first plan
+-- the code's numbers with the caller's list; `settingOf` those of a run until the first plan
 abbrev pub settingWith : Bool → Options → List ℕ → Setting
 settingWith counts options callers = record {
   filter = options .filter;

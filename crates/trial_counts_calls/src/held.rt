@@ -1,6 +1,4 @@
 // What cells, counts and work words hold after a call.
-ghost use mathlib.Core.Path.{_≡_};
-ghost use lib.ListN.{getD};
 use trial_parts::count;
 use trial_parts::either;
 use trial_parts::first;

@@ -1,10 +1,10 @@
 -- A loop that zeroes a list from the front, whatever its width: nothing yet, one place more, and all done.
 use mathlib.Core.Path.{_≡_, refl, sym, ap, _∙_}
 use mathlib.Core.List.{List, _++_, append-nil}
-use Prim.Native.Nat.{ℕ, _+_, _≤_, _<_}
+use Prim.Native.Nat.{ℕ, zero, suc, _+_, _≤_, _<_}
 use native.Mathlib.Omega.{arith}
 use Rattle.zeros.specs.Zeros.{zeros}
-use lib.ListN.{length, drop, set, replicate, length-set, length-replicate}
+use lib.ListN.{length, drop, getD, set, replicate, length-set, length-replicate}
 use lib.Seq.{drop-length}
 use borrow.Author.Fill.{fill-none, fill-more}
 
@@ -37,3 +37,10 @@ zero-length x m e = ap length e ∙ length-replicate m 0
 
 pub zero-again : (x : List ℕ) (m : ℕ) → x ≡ zeros m → x ≡ zeros (length x)
 zero-again x m e = e ∙ ap zeros (sym (zero-length x m e))
+
+-- each of them is zero, and so is what is read past them
+pub zeros-at : (m i : ℕ) → getD (zeros m) i 0 ≡ 0
+unfolding zeros
+zeros-at zero i = refl
+zeros-at (suc m) zero = refl
+zeros-at (suc m) (suc i) = zeros-at m i
