@@ -1,10 +1,13 @@
 // The channels of television that are on air: whether a list of them may be lent, and which frequencies it takes out.
 // The contracts cite specs/Channels.antt.
+mod chart;
+
 ghost use mathlib.Core.Path.{_≡_};
 ghost use mathlib.Core.Bool.{true};
 ghost use Prim.Native.Nat.{_≤_, _<_};
 ghost use lib.ListN.{length};
 ghost use Rattle.channels.specs.Channels.{lowerEdge, covers as coversOf, channelOk, channelsOk, onAir};
+use crate::chart::lower_edges;
 
 // Whether entry i of the list is above the one before it, and a channel.
 fn is_channel(channels: &[u8], i: usize) -> bool
@@ -38,7 +41,7 @@ fn lower_edge(c: usize) -> usize
     requires { ⌜ (21 ≤ c) × (c ≤ 48) ⌝ }
     ensures { λ r. ⌜ r ≡ lowerEdge c ⌝ }
 {
-    470000 + 8000 * (c - 21)
+    lower_edges()[c - 21]
 }
 
 // Whether channel c covers the frequency x.
