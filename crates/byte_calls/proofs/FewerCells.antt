@@ -3,7 +3,7 @@
 use mathlib.Core.Path.{_≡_, refl, sym, ap, _∙_}
 use mathlib.Core.Bool.{Bool, true, false}
 use mathlib.Core.List.{List}
-use Prim.Native.Nat.{ℕ, _≤_, _/_, _%_, _^_, min}
+use Prim.Native.Nat.{ℕ, _≤_, min}
 use native.Mathlib.Nat.{min-eq-left, min-comm}
 use native.Mathlib.Omega.{arith}
 use lib.Dec.{eqb, ltb, leb}
@@ -11,7 +11,7 @@ use lib.ListN.{length, getD, List·getD-eq-default}
 use borrow.Author.Tests.{eqb-true, eqb-false, ltb-true, ltb-false, le-leb, le-ltb}
 use Rattle.sets.specs.Below.{tabulate}
 use Rattle.sets.proofs.Tests.{bool}
-use Rattle.sets.proofs.Lists.{length-tabulate, getD-tabulate, tabulate-same}
+use Rattle.sets.proofs.Lists.{length-tabulate, getD-tabulate}
 use Rattle.channels.specs.Channels.{channelsOk}
 use Rattle.sheet.specs.Sheet.{kOf}
 use Rattle.sheet.specs.Refusal.{refusal, passing}
@@ -28,7 +28,8 @@ use Rattle.work_words.specs.Layout.{workWords}
 use Rattle.planner.specs.Outcome.{Outcome, settingCause, callRefusal, treeOf, outcomeOf, outcome}
 use Rattle.planner.proofs.Accepted.{call-accepted}
 use Rattle.planner.proofs.Outcomes.{outcome-refused, outcome-accepted}
-use Rattle.byte_calls.specs.ByteCalls.{callNumber, cellByte, cellBytes, Handed}
+use Rattle.number_bytes.proofs.NumberBytes.{same-bytes}
+use Rattle.byte_calls.specs.ByteCalls.{callNumber, Handed}
 
 -- two outcomes that the caller cannot tell apart
 pub record Alike (o p : Outcome) : Type 0 where
@@ -48,6 +49,15 @@ getD-tabled m k f h z i = go (ltb i m) refl
     go false q =
         let l = ltb-false i m q in
         List·getD-eq-default (tabulate m f) 0 (rw length-tabulate l) ∙ sym (z i (omega arith))
+
+-- the lesser of two numbers against a third that is not above the second
+pub lesser : (x m most r : ℕ) → r ≡ min m most → x ≤ most → leb x r ≡ leb x m
+lesser x m most r e h = bool (ltb m most)
+    (λ q. ap (leb x) (e ∙ min-eq-left (omega (arith, ltb-true m most q))))
+    (λ q.
+    let l = ltb-false m most q in
+    let f : r ≡ most = e ∙ min-comm m most ∙ min-eq-left l in
+    le-leb x r (omega arith) ∙ sym (le-leb x m (omega arith)))
 
 module _ (job : Job) (x : Setting) (m r : ℕ) (hm : 64 ≤ m) (hr : 64 ≤ r) where
   abbrev s : List ℕ
@@ -113,11 +123,10 @@ lent-alike job x m r e = go (ltb m 64) refl
 -- what the caller is handed
 pub alike-handed : {o p : Outcome} {room r : ℕ} {bytes : List ℕ} → Alike o p → Handed o room r bytes
     → Handed p room r bytes
-unfolding callNumber cellBytes cellByte
-alike-handed {o} {p} {room} h H = record {
+unfolding callNumber
+alike-handed {room = room} h H = record {
   number = H .number ∙ rw (h .answer, h .nodes) refl;
-  bytes = H .bytes ∙ tabulate-same room (cellByte (o .cells)) (cellByte (p .cells))
-      (λ i l. ap (λ v. v / 256 ^ (i % 4) % 256) (h .cells (i / 4)));
+  bytes = H .bytes ∙ same-bytes 4 room _ _ (h .cells);
 }
 
 -- the check reads no cell past the 64th

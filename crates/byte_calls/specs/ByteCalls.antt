@@ -2,10 +2,11 @@
 -- cell, little-endian".
 use mathlib.Core.Path.{_≡_}
 use mathlib.Core.List.{List}
-use Prim.Native.Nat.{ℕ, _+_, _*_, _/_, _%_, _^_}
-use lib.ListN.{length, getD}
+use Prim.Native.Nat.{ℕ, _+_, _*_, _/_, _^_}
+use lib.ListN.{length}
 use Rattle.sets.specs.Below.{tabulate}
 use Rattle.wire.specs.Fields.{le32}
+use Rattle.number_bytes.specs.NumberBytes.{numberBytes}
 use Rattle.rules.specs.Job.{Job}
 use Rattle.rules.specs.Plans.{checked}
 use Rattle.setting.specs.Setting.{Setting}
@@ -17,12 +18,9 @@ use Rattle.planner.specs.Outcome.{Outcome, outcome}
 unfoldable pub callNumber : Outcome → ℕ
 callNumber o = o .nodes + 2 ^ 32 * o .answer
 
--- byte i of cells, and 0 past them: "Planning zeroes a remainder of up to three bytes"
-unfoldable pub cellByte : List ℕ → ℕ → ℕ
-cellByte cells i = getD cells (i / 4) 0 / 256 ^ (i % 4) % 256
-
-unfoldable pub cellBytes : List ℕ → ℕ → List ℕ
-cellBytes cells room = tabulate room (cellByte cells)
+-- cells as bytes, and zeros past them: "Planning zeroes a remainder of up to three bytes"
+abbrev pub cellBytes : List ℕ → ℕ → List ℕ
+cellBytes = numberBytes 4
 
 -- the number r and the bytes that are left are those of an outcome, with `room` bytes for its cells
 pub record Handed (o : Outcome) (room r : ℕ) (left : List ℕ) : Type 0 where

@@ -13,7 +13,7 @@ ghost use Rattle.planner.specs.Outcome.{outcome};
 ghost use Rattle.planner.specs.Planned.{verdictNumber};
 ghost use Rattle.byte_calls.specs.ByteCalls.{outcomeIn, checkedIn, Handed, cellIn};
 pub use cell_bytes::get_cells;
-pub use cell_bytes::put_cells;
+use number_bytes::put_fours;
 use planner::Planned;
 use planner::check;
 use planner::plan;
@@ -54,7 +54,7 @@ fn plan_into(
         (length (now (bytes .entry))) r (now (bytes .exit)) ⌝ }
 {
     let p = plan(sheet, channels, options, classes, cells, work);
-    put_cells(cells, bytes);
+    put_fours(cells, bytes);
     number(p)
 }
 

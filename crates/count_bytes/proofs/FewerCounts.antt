@@ -3,15 +3,11 @@
 use mathlib.Core.Path.{_≡_, refl, sym, ap, _∙_}
 use mathlib.Core.Bool.{Bool, true, false, cond}
 use mathlib.Core.List.{List}
-use Prim.Native.Nat.{ℕ, _≤_, _/_, _%_, _^_, min}
-use native.Mathlib.Nat.{min-eq-left, min-comm}
-use native.Mathlib.Omega.{arith}
+use Prim.Native.Nat.{ℕ, _≤_, min}
 use lib.Dec.{eqb, ltb, leb}
 use lib.ListN.{getD}
-use borrow.Author.Tests.{eqb-true, eqb-false, ltb-true, ltb-false, le-leb, le-ltb}
+use borrow.Author.Tests.{eqb-true, eqb-false, le-ltb}
 use Rattle.sets.specs.Below.{tabulate}
-use Rattle.sets.proofs.Tests.{bool}
-use Rattle.sets.proofs.Lists.{tabulate-same}
 use Rattle.sheet.specs.Sheet.{nOf}
 use Rattle.sheet.specs.Refusal.{passing, unless}
 use Rattle.sheet.proofs.Accepted.{accepted}
@@ -23,23 +19,17 @@ use Rattle.work_words.specs.Layout.{workWords}
 use Rattle.planner.specs.Outcome.{callRefusal, outcomeOf, outcome}
 use Rattle.planner.proofs.Accepted.{call-accepted}
 use Rattle.planner.proofs.Outcomes.{outcome-accepted}
-use Rattle.byte_calls.proofs.FewerCells.{Alike, getD-tabled, lent-cause, lent-alike, alike-handed}
+use Rattle.number_bytes.proofs.NumberBytes.{same-bytes}
+use Rattle.byte_calls.proofs.FewerCells.{Alike, getD-tabled, lesser, lent-cause, lent-alike, alike-handed}
 use Rattle.counting.specs.Plans.{plansWith}
 use Rattle.counting.specs.Outcome.{countingRefusal, longerTreeOf, countOf, countsFor, CountingOutcome, countingOutcome}
 use Rattle.counting.proofs.Outcomes.{cause-same, causes-passed, counting-refused, counting-accepted}
-use Rattle.count_bytes.specs.CountBytes.{countByte, countBytes, CountsHanded}
+use Rattle.count_bytes.specs.CountBytes.{CountsHanded}
 
 -- two outcomes that the caller cannot tell apart
 pub record AlikeCounting (o p : CountingOutcome) : Type 0 where
   pub outcome : Alike (o .outcome) (p .outcome)
   pub counts : (i : ℕ) → getD (o .counts) i 0 ≡ getD (p .counts) i 0
-
--- the lesser of u and 512 counts is enough just where u is
-enough : (n u s : ℕ) → s ≡ min u 512 → n ≤ 512 → leb n s ≡ leb n u
-enough n u s e h = bool (ltb u 512)
-    (λ q. ap (leb n) (e ∙ min-eq-left (omega (arith, ltb-true u 512 q))))
-    (λ q. let l = ltb-false u 512 q in
-    ap (leb n) (e ∙ min-comm u 512 ∙ min-eq-left l) ∙ le-leb n 512 h ∙ sym (le-leb n u (omega arith)))
 
 module _ (job : Job) (x : Setting) (m r u s : ℕ) (em : r ≡ min m 64) (eu : s ≡ min u 512) where
   same-cause : countingRefusal job x r s workWords ≡ countingRefusal job x m u workWords
@@ -51,7 +41,7 @@ module _ (job : Job) (x : Setting) (m r u s : ℕ) (em : r ≡ min m 64) (eu : s
           ≡ passing b (callRefusal job x m workWords) (λ _. unless (leb (nOf (job .sheet)) u) 19)
       go true q =
           let a = accepted (job .sheet) (call-accepted job x m workWords (eqb-true _ 0 q) .sheet) in
-          ap (λ b. unless b 19) (enough (nOf (job .sheet)) u s eu (a .head .n-small))
+          ap (λ b. unless b 19) (lesser (nOf (job .sheet)) u 512 s eu (a .head .n-small))
       go false q = refl
 
   -- the counts of a list that is long enough, and of an answer, read anywhere
@@ -102,9 +92,7 @@ module _ (job : Job) (x : Setting) (m r u s : ℕ) (em : r ≡ min m 64) (eu : s
 -- what the caller is handed
 pub counts-handed : {o p : CountingOutcome} {room space r : ℕ} {cells counts : List ℕ} → AlikeCounting o p
     → CountsHanded o room space r cells counts → CountsHanded p room space r cells counts
-unfolding countBytes countByte
-counts-handed {o} {p} {space = space} h H = record {
+counts-handed {space = space} h H = record {
   handed = alike-handed (h .outcome) (H .handed);
-  bytes = H .bytes ∙ tabulate-same space (countByte (o .counts)) (countByte (p .counts))
-      (λ i l. ap (λ v. v / 256 ^ (i % 8) % 256) (h .counts (i / 8)));
+  bytes = H .bytes ∙ same-bytes 8 space _ _ (h .counts);
 }

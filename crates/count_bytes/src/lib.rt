@@ -6,57 +6,13 @@ ghost use Rattle.rules.specs.Job.{jobWith};
 ghost use Rattle.setting.specs.Setting.{settingOf};
 ghost use Rattle.work_words.specs.Layout.{workWords};
 ghost use Rattle.counting.specs.Outcome.{countingOutcome};
-ghost use Rattle.count_bytes.specs.CountBytes.{countByte, countBytes, CountsHanded, countingIn};
+ghost use Rattle.count_bytes.specs.CountBytes.{CountsHanded, countingIn};
 use byte_calls::lent;
 use byte_calls::number;
-use byte_calls::put_cells;
 use counting::count;
+use number_bytes::put_eights;
+use number_bytes::put_fours;
 use setting::Options;
-
-// Byte i of the counts, and 0 past them.
-fn count_byte(counts: &[u64], i: usize) -> u8
-    ensures { λ r. ⌜ r ≡ countByte (now (counts .entry)) i ⌝ }
-{
-    let at = i / 8;
-    if at >= counts.len() {
-        return 0;
-    }
-    let v = counts[at];
-    let j = i % 8;
-    if j == 0 {
-        return (v % 256) as u8;
-    }
-    if j == 1 {
-        return (v / 256 % 256) as u8;
-    }
-    if j == 2 {
-        return (v / 65536 % 256) as u8;
-    }
-    if j == 3 {
-        return (v / 16777216 % 256) as u8;
-    }
-    if j == 4 {
-        return (v / 4294967296 % 256) as u8;
-    }
-    if j == 5 {
-        return (v / 1099511627776 % 256) as u8;
-    }
-    if j == 6 {
-        return (v / 281474976710656 % 256) as u8;
-    }
-    (v / 72057594037927936 % 256) as u8
-}
-
-// The counts as bytes, and zeros after them.
-fn put_counts(from: &[u64], to: &mut [u8])
-    ensures { λ _. ⌜ now (to .exit) ≡ countBytes (now (from .entry)) (length (now (to .entry))) ⌝ }
-{
-    let mut i = 0;
-    while i < to.len() {
-        to[i] = count_byte(from, i);
-        i += 1;
-    }
-}
 
 // The counts that the library is lent: no sheet has more than 512 frequencies.
 fn counts_lent(bytes: usize) -> usize
@@ -85,8 +41,8 @@ fn count_into(
 {
     let mut work = [0u64; 8192];
     let p = count(sheet, channels, options, classes, cells, counts, &mut work);
-    put_cells(cells, plan);
-    put_counts(counts, tally);
+    put_fours(cells, plan);
+    put_eights(counts, tally);
     number(p)
 }
 

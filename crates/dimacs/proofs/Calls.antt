@@ -1,14 +1,14 @@
 -- What the calls leave in their outputs, where they succeed.
 use mathlib.Core.Path.{_≡_, refl, sym, ap, _∙_}
-use mathlib.Core.Bool.{Bool, true, false, _&&_}
+use mathlib.Core.Bool.{Bool, true, false}
 use mathlib.Core.List.{List}
 use Prim.Native.Nat.{ℕ}
-use lib.Dec.{leb, eqb}
+use lib.Dec.{eqb}
 use lib.ListN.{length, take}
 use lib.Seq.{take-at}
 use borrow.Author.Tests.{eqb-true, eqb-false}
 use Rattle.sets.proofs.Tests.{bool}
-use Rattle.sheet.specs.Refusal.{refusal, passing, unless}
+use Rattle.sheet.specs.Refusal.{refusal, passing}
 use Rattle.output.specs.Output.{padded}
 use Rattle.dimacs.specs.Export.{graphTextOf, countsTextOf, exportCause, ExportOutcome, exported}
 use Rattle.dimacs.specs.Import.{importCause, importedSheet, ImportOutcome, importOf, imported}

@@ -1,12 +1,12 @@
 -- Choices by what was read: what holds on each side, and the turn of a reader that goes on.
-use mathlib.Core.Path.{_≡_, refl, sym, ap, _∙_}
+use mathlib.Core.Path.{_≡_, refl, ap, _∙_}
 use mathlib.Core.Bool.{Bool, true, false, _||_}
 use mathlib.Core.List.{List, [], _∷_, _++_}
 use Prim.Native.Nat.{ℕ, suc, _+_, _*_}
 use Rattle.sets.specs.Sets.{Set, _∪_, just}
 use Rattle.dimacs.specs.Reading.{Number, noNumber, number, field, newline, isEmpty, verticesOf, countFits}
-use Rattle.dimacs.specs.Reading.{CountList, noCounts, counts, countsFrom, Line, noLine, anEdge, edgeLine, clashes}
-use Rattle.dimacs.specs.Reading.{Edges, noEdges, edges, edgesFrom}
+use Rattle.dimacs.specs.Reading.{counts, countsFrom, Line, noLine, anEdge, edgeLine, clashes}
+use Rattle.dimacs.specs.Reading.{edges, edgesFrom}
 
 -- a choice by what was read has a property if each side has it
 pub number-case {ℓ ℓ′} : {A : Type ℓ} (P : A → Type ℓ′) (r : Number) (x : A) (f : ℕ → List ℕ → A) → (r ≡ noNumber → P x)

@@ -1,18 +1,18 @@
 -- Of k links at most 64, there are at most 2,016 pairs.
-use mathlib.Core.Path.{_≡_, refl, sym, ap, _∙_}
-use mathlib.Core.Bool.{Bool, true, false, not, _&&_}
+use mathlib.Core.Path.{_≡_, refl, ap, _∙_}
+use mathlib.Core.Bool.{Bool, true, false, not}
 use mathlib.Core.List.{List}
-use Prim.Native.Nat.{ℕ, zero, suc, _+_, _-_, _*_, _/_, _%_, _≤_, _<_}
+use Prim.Native.Nat.{ℕ, zero, suc, _+_, _-_, _*_, _/_, _%_, _≤_}
 use native.Mathlib.Nat.{mul-comm, mul-suc}
 use native.Mathlib.Omega.{arith}
-use lib.Dec.{ltb, lit≤}
+use lib.Dec.{ltb}
 use lib.ListN.{length}
-use borrow.Author.Tests.{lt-ltb, le-ltb, ltb-true, ltb-false}
+use borrow.Author.Tests.{ltb-true, ltb-false}
 use Rattle.sets.specs.Below.{one, count, sumTo}
 use Rattle.sets.proofs.Tests.{bool, below, and-l}
 use Rattle.sets.proofs.Below.{count-add, count-same, count-mono}
 use Rattle.sheet.specs.Sheet.{mostRules}
-use Rattle.dimacs.specs.Made.{isRuled, isFull, ruled, ruleTotal}
+use Rattle.dimacs.specs.Made.{isRuled, isFull, ruleTotal}
 use Rattle.dimacs.proofs.Codes.{code-first, code-second}
 use Rattle.dimacs.proofs.Accepts.{rule-count, Small}
 

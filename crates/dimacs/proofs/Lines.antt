@@ -1,26 +1,25 @@
 -- The two texts that export writes are read back.
-use mathlib.Core.Path.{_≡_, refl, sym, ap, subst, _∙_, fun-ext}
-use mathlib.Core.Bool.{Bool, true, false, not, cond, _&&_, _||_}
+use mathlib.Core.Path.{_≡_, refl, sym, ap, _∙_, fun-ext}
+use mathlib.Core.Bool.{Bool, true, false, _&&_, _||_}
 use mathlib.Core.Logic.{_⊎_, inl, inr}
 use mathlib.Core.List.{List, [], _∷_, _++_, append-nil, append-assoc}
 use Prim.Native.Nat.{ℕ, zero, suc, _+_, _-_, _*_, _/_, _%_, _≤_, _<_}
 use native.Mathlib.Omega.{arith}
-use native.Mathlib.Numerals.{add-one}
 use native.Mathlib.Nat.{mul-le-mul}
 use lib.Dec.{ltb, leb, eqb}
-use lib.ListN.{length, getD, length-append, List·getD-append}
-use borrow.Author.Tests.{lt-ltb, le-ltb, le-leb, eq-eqb, ne-eqb, ltb-true, ltb-false, eqb-true}
-use Rattle.sets.specs.Below.{sumTo, count}
+use lib.ListN.{length, getD, length-append}
+use borrow.Author.Tests.{lt-ltb, le-ltb, le-leb, eq-eqb, ne-eqb, ltb-true, eqb-true}
+use Rattle.sets.specs.Below.{count}
 use Rattle.sets.specs.Sets.{Set, _∪_, just, nothing}
-use Rattle.sets.proofs.Tests.{bool, clash, is-false, iff, below, and-l, and-r, and-in, or-l, or-r, or-case, not-in}
+use Rattle.sets.proofs.Tests.{bool, clash, iff, below, and-l, and-r, and-in, or-l, or-r, or-case}
 use Rattle.sets.proofs.Below.{count-le}
 use Rattle.lines.specs.Lines.{ascii, decimal, line}
 use Rattle.dimacs.specs.Lists.{select, forEach}
 use Rattle.dimacs.specs.Export.{isEdge, edgeCodes, edgeText, graphText, countText, countsText}
-use Rattle.dimacs.specs.Reading.{Number, number, field, newline, space, isEmpty, countOf, firstOf, verticesOf}
-use Rattle.dimacs.specs.Reading.{layerBy, countFits, CountList, counts, countsFrom}
-use Rattle.dimacs.specs.Reading.{Line, anEdge, isVertex, edgeTo, edgeFrom, edgeLine, clashes, Edges, edges}
-use Rattle.dimacs.specs.Reading.{edgesFrom, ofLines, linesFrom, headFrom, edgesOf, Texts, texts, textsOver}
+use Rattle.dimacs.specs.Reading.{field, newline, space, isEmpty, countOf, verticesOf}
+use Rattle.dimacs.specs.Reading.{layerBy, countFits, counts, countsFrom}
+use Rattle.dimacs.specs.Reading.{anEdge, isVertex, edgeTo, edgeFrom, edgeLine, clashes, edges}
+use Rattle.dimacs.specs.Reading.{edgesFrom, ofLines, linesFrom, headFrom, edgesOf, texts, textsOver}
 use Rattle.dimacs.specs.Reading.{textsBy, textsOf}
 use Rattle.dimacs.specs.Made.{joined}
 use Rattle.dimacs.specs.Import.{textGraph}

@@ -2,15 +2,14 @@
 use mathlib.Core.Path.{_≡_, refl, sym, ap, subst, _∙_}
 use mathlib.Core.Bool.{Bool, true, false, cond}
 use mathlib.Core.List.{List, [], _∷_, _++_, append-nil, append-assoc}
-use Prim.Native.Nat.{ℕ, zero, suc, _+_, _*_, _/_, _%_, _≤_, _<_}
+use Prim.Native.Nat.{ℕ, zero, suc, _+_, _*_, _≤_, _<_}
 use native.Mathlib.Numerals.{add-one}
 use native.Mathlib.Omega.{arith}
-use lib.ListN.{length, getD, drop, length-append, List·getD-append}
-use lib.Seq.{getD-at, getD-append-add, drop-at}
+use lib.ListN.{length, getD, length-append, List·getD-append}
+use lib.Seq.{getD-at, getD-append-add}
 use Rattle.sets.specs.Below.{one, count, sumTo}
-use Rattle.sets.proofs.Tests.{bool, below}
+use Rattle.sets.proofs.Tests.{below}
 use Rattle.sets.proofs.Below.{sum-in}
-use Rattle.wire.specs.Fields.{bytes16, bytes32}
 use Rattle.dimacs.specs.Lists.{select, forEach, joinTo}
 
 -- counts up to a bound

@@ -1,15 +1,15 @@
 -- A number that is written in decimal is read back.
-use mathlib.Core.Path.{_≡_, refl, sym, ap, subst, _∙_}
-use mathlib.Core.Bool.{Bool, true, false, cond, _&&_}
+use mathlib.Core.Path.{_≡_, refl, ap, _∙_}
+use mathlib.Core.Bool.{true, false}
 use mathlib.Core.List.{List, [], _∷_, _++_, append-assoc}
 use Prim.Native.Nat.{ℕ, zero, suc, _+_, _-_, _*_, _/_, _%_, _≤_, _<_}
 use native.Mathlib.Omega.{arith}
 use lib.Dec.{ltb, leb, eqb}
-use borrow.Author.Tests.{lt-ltb, le-ltb, le-leb, eq-eqb, eqb-true, ltb-true, ltb-false}
+use borrow.Author.Tests.{le-leb, eq-eqb, eqb-true, ltb-true, ltb-false}
 use Rattle.sets.proofs.Tests.{bool, case, clash, and-in}
 use Rattle.lines.specs.Lines.{ascii, digits, decimal, ending, line}
 use Rattle.lines.proofs.Decimals.{bound, digits-later}
-use Rattle.dimacs.specs.Reading.{Number, noNumber, number, isDigit, digitsFrom, readNumber, endedBy, field, space}
+use Rattle.dimacs.specs.Reading.{noNumber, number, isDigit, digitsFrom, readNumber, endedBy, field, space}
 use Rattle.dimacs.specs.Reading.{newline}
 
 digit-is : (b : ℕ) → 48 ≤ b → b ≤ 57 → isDigit b ≡ true

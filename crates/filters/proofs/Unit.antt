@@ -12,10 +12,9 @@ use Rattle.sets.proofs.Tests.{clash, and-l, and-r, and-in, or-l, or-r, or-case,
 use Rattle.sets.proofs.Below.{first-lt, first-is, any-no, count-le, count-less, count-pos}
 use Rattle.sets.proofs.Sets.{meet-l, meet-r, meet-in}
 use Rattle.cliques.specs.Graph.{Graph, At, lone, lower, isOpen, Clique, cliqueSet}
-use Rattle.filters.specs.Promise.{Promise}
 use Rattle.filters.specs.Unit.{stays, strike, due, steps, unit}
 use Rattle.cliques.proofs.Graph.{Sole, at-sub, lone-sole, sole-lone, sole-sub, open-out}
-use Rattle.filters.proofs.Promise.{Greatest, set-joined, greatest-promise}
+use Rattle.filters.proofs.Promise.{Greatest, set-joined}
 
 module _ (G : Graph) where
   open Graph G using (n, k, cls, adj)
@@ -150,6 +149,3 @@ module _ (G : Graph) where
 
   pub clique-closed : (d : ℕ) (L : Set) (c : ℕ → ℕ) → Clique G d L c → UnitClosed d (cliqueSet G d c)
   clique-closed d L c p e v a b s u h l ne = set-joined G d L c p v u (s .at .live) h (λ q. ne (q ∙ s .at .cl))
-
-  pub unit-promise : Promise G (unit G)
-  unit-promise = greatest-promise G UnitClosed (unit G) unit-greatest clique-closed

@@ -9,7 +9,7 @@ mod sweep_rows;
 mod unit_rows;
 
 ghost use mathlib.Core.Path.{_≡_};
-ghost use Prim.Native.Nat.{_+_, _≤_};
+ghost use Prim.Native.Nat.{_≤_};
 ghost use lib.ListN.{length};
 ghost use Rattle.cliques.specs.Graph.{Graph, isOpen};
 ghost use Rattle.cliques.specs.Words.{ownRow, Room, Node, fourRows};

@@ -7,7 +7,7 @@ use lib.ListN.{length}
 use Rattle.rows.specs.Rows.{rowAt}
 use Rattle.output.specs.Output.{Wrote}
 use Rattle.dimacs.specs.Lists.{select, forEach}
-use Rattle.dimacs.specs.Export.{isEdge, edgeCodes, edgeText}
+use Rattle.dimacs.specs.Export.{isEdge, edgeText}
 
 -- "Sets of vertices are 64-bit words": the words of a row, for form 1's 512 vertices
 abbrev pub rowWords : ℕ

@@ -1,5 +1,4 @@
 // The edges of a graph, by the rows of its adjacency in words.
-ghost use mathlib.Core.Path.{_≡_};
 ghost use Prim.Native.Nat.{_+_, _*_, _≤_, _<_};
 ghost use lib.ListN.{length};
 ghost use Rattle.rows.specs.Rows.{rowAt};

@@ -7,7 +7,7 @@ use native.Mathlib.Omega.{arith}
 use lib.Dec.{ltb}
 use lib.ListN.{length, length-append}
 use borrow.Author.Tests.{lt-ltb, le-ltb}
-use Rattle.lines.specs.Lines.{ascii, digits, decimal, ending, line}
+use Rattle.lines.specs.Lines.{digits, decimal}
 
 -- numbers of at most f digits are below this
 abbrev pub bound : ℕ → ℕ
@@ -73,12 +73,3 @@ decimal-length n h m = ap length (decimal-more n h m) ∙ length-append (decimal
 pub decimal-few : (n : ℕ) → n < 2 ^ 32 → length (decimal n) ≤ 10
 unfolding decimal
 decimal-few n h = digits-few 20 9 n [] (omega arith)
-
-pub line-few : (word : List ℕ) (n : ℕ) → n < 2 ^ 32 → length (line word n) ≤ length word + 12
-unfolding line ending ascii
-line-few word n h =
-    let a = length-append word (ending n) in
-    let b = length-append (ascii " " ++ decimal n) (ascii "\n") in
-    let c = length-append (ascii " ") (decimal n) in
-    let d = decimal-few n h in
-    omega arith

@@ -3,13 +3,13 @@
 use mathlib.Core.Path.{_≡_, refl, sym, ap, _∙_}
 use mathlib.Core.Bool.{Bool, true, false}
 use mathlib.Core.List.{List}
-use Prim.Native.Nat.{ℕ, _*_, _/_, _%_, _^_, _≤_, _<_, min}
+use Prim.Native.Nat.{ℕ, _*_, _≤_, _<_, min}
 use native.Mathlib.Nat.{min-eq-left, min-comm}
 use native.Mathlib.Omega.{arith}
 use lib.Dec.{eqb, ltb, leb}
 use lib.IntN.{ℤ, pos}
 use lib.ListN.{getD}
-use borrow.Author.Tests.{eqb-true, ltb-true, ltb-false, le-leb}
+use borrow.Author.Tests.{eqb-true, ltb-true, ltb-false}
 use Rattle.sets.specs.Below.{tabulate}
 use Rattle.sets.proofs.Tests.{bool}
 use Rattle.sets.proofs.Lists.{length-tabulate, getD-tabulate, tabulate-same}
@@ -21,19 +21,12 @@ use Rattle.rules.specs.Plans.{cellsOf, checked}
 use Rattle.spares.specs.Table.{Tabled}
 use Rattle.spares.specs.Spares.{answerFor, judged, shown, placeLeft}
 use Rattle.spares.proofs.Laws.{few-places, judged-checked, at-first-k, listed-first-k, left-past}
-use Rattle.byte_calls.specs.ByteCalls.{cellByte, cellBytes}
-use Rattle.byte_calls.proofs.FewerCells.{getD-tabled, lent-checked}
+use Rattle.number_bytes.proofs.NumberBytes.{same-bytes}
+use Rattle.byte_calls.specs.ByteCalls.{cellBytes}
+use Rattle.byte_calls.proofs.FewerCells.{getD-tabled, lesser, lent-checked}
 use Rattle.spares_bytes.specs.SparesBytes.{bits32, tableBits}
 
--- the lesser of two numbers against a third that is not above the second
-lesser : (x m most r : ℕ) → r ≡ min m most → x ≤ most → leb x r ≡ leb x m
-lesser x m most r e h = bool (ltb m most)
-    (λ q. ap (leb x) (e ∙ min-eq-left (omega (arith, ltb-true m most q))))
-    (λ q.
-    let l = ltb-false m most q in
-    let f : r ≡ most = e ∙ min-comm m most ∙ min-eq-left l in
-    le-leb x r (omega arith) ∙ sym (le-leb x m (omega arith)))
-
+-- the lesser of two numbers is not below a third that neither is below
 lesser-le : (x m most r : ℕ) → r ≡ min m most → x ≤ most → x ≤ m → x ≤ r
 lesser-le x m most r e h l = bool (ltb m most)
     (λ q. let f : r ≡ m = e ∙ min-eq-left (omega (arith, ltb-true m most q)) in omega arith)
@@ -99,9 +92,7 @@ module _ (job : Job) (g : ℕ → ℕ) (m r places room : ℕ) (cells : r ≡ mi
 
   pub bytes-lent : (n : ℕ) → cellBytes (tableBits job (tabulate r g) room) n
       ≡ cellBytes (tableBits job (tabulate m g) places) n
-  unfolding cellBytes cellByte
-  bytes-lent n = tabulate-same n (cellByte (tableBits job (tabulate r g) room))
-      (cellByte (tableBits job (tabulate m g) places)) (λ i l. ap (λ v. v / 256 ^ (i % 4) % 256) (place-lent (i / 4)))
+  bytes-lent n = same-bytes 4 n _ _ place-lent
 
 -- the bits of a table that is left
 pub table-bits : (job : Job) (cells : List ℕ) (room : ℕ) (p : List ℤ) → Tabled (placeLeft job cells room) room p

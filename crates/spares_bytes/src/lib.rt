@@ -10,7 +10,7 @@ ghost use Rattle.byte_calls.specs.ByteCalls.{cellIn, cellsIn, cellBytes};
 ghost use Rattle.spares_bytes.specs.SparesBytes.{bits32, tableBits, SparesHanded};
 use byte_calls::get_cells;
 use byte_calls::lent;
-use byte_calls::put_cells;
+use number_bytes::put_fours;
 use rules::check_number;
 use spares::spares;
 
@@ -66,7 +66,7 @@ fn spares_into(
     get_cells(from, cells);
     let answer = spares(sheet, channels, cells, table);
     get_bits(table, bits);
-    put_cells(bits, to);
+    put_fours(bits, to);
     check_number(answer) as u64
 }
 

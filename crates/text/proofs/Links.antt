@@ -1,5 +1,5 @@
 -- The lines of the links: none, one more, and all; and after another text.
-use mathlib.Core.Path.{_≡_, refl, sym, ap, subst, _∙_}
+use mathlib.Core.Path.{_≡_, sym, ap, subst, _∙_}
 use mathlib.Core.List.{List, [], _++_, append-nil, append-assoc}
 use Prim.Native.Nat.{ℕ, zero, suc, _+_, _≤_}
 use native.Mathlib.Numerals.{add-one}
@@ -7,7 +7,7 @@ use native.Mathlib.Omega.{arith}
 use lib.ListN.{getD}
 use Rattle.sets.specs.Below.{loop}
 use Rattle.output.specs.Output.{Wrote}
-use Rattle.output.proofs.Wrote.{wrote-none, wrote-then, wrote-same}
+use Rattle.output.proofs.Wrote.{wrote-none, wrote-then}
 use Rattle.lines.specs.Lines.{decimal, line}
 use Rattle.text.specs.Text.{linkLines}
 use Rattle.text.specs.Written.{PutLines}

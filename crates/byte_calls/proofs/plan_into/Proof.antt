@@ -17,7 +17,7 @@ returns c =
     let x = settingOf (a .options) (now (a .classes)) in
     let job = jobWith (now (a .sheet)) (now (a .channels)) in
     gives-handed {o = outcome job x (length (now (a .cells))) (length (now (a .work)))}
-    (p .plan .ensures .gives) (c .number .ensures) (put .put-cells .ensures)
+    (p .plan .ensures .gives) (c .number .ensures) (put .put-fours .ensures)
 
 pub plan-into-spec : {M : Type 1} → statement M
 plan-into-spec =

@@ -6,9 +6,9 @@ use lib.ListN.{length}
 use Rattle.rules.specs.Job.{jobWith}
 use Rattle.setting.specs.Setting.{settingOf}
 use Rattle.work_words.specs.Layout.{workWords}
+use Rattle.number_bytes.specs.NumberBytes.{numberBytes}
 use Rattle.byte_calls.proofs.Handed.{gives-handed}
 use Rattle.counting.specs.Outcome.{countingOutcome}
-use Rattle.count_bytes.specs.CountBytes.{countBytes}
 use Rattle.count_bytes.proofs.count_into.Statement.{statement}
 use Rattle.count_bytes.proofs.count_into.Tie as tie
 
@@ -23,9 +23,9 @@ returns c =
     let o = countingOutcome job x (length (now (a .cells))) (length (now (a .counts))) workWords in
     record {
       handed = gives-handed {o = o .outcome} (n .count .ensures .given .gives) (c .number .ensures)
-          (p .put-cells .ensures);
-      bytes = t .put-counts .ensures
-          ∙ ap (λ l. countBytes l (length (now (a .tally)))) (n .count .ensures .given .counted);
+          (p .put-fours .ensures);
+      bytes = t .put-eights .ensures
+          ∙ ap (λ l. numberBytes 8 l (length (now (a .tally)))) (n .count .ensures .given .counted);
     }
 
 pub count-into-spec : {M : Type 1} → statement M

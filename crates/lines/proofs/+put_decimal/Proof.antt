@@ -1,7 +1,7 @@
 -- `lines::put_decimal` meets its contract: the number falls at each call.
 use borrow.Author.Needs.{needs}
 use Prim.Native.Nat.{ℕ, _<_}
-use mathlib.Core.Path.{sym, ap}
+use mathlib.Core.Path.{sym}
 use lib.ListN.{length}
 use native.Mathlib.Omega.{arith}
 use borrow.Fn.Kinds.{In}

@@ -1,10 +1,9 @@
 -- `output::put_word` meets its contract: the first i bytes of the word are put.
 use borrow.Author.Needs.{needs}
-use denote.Ref.{now}
 use Prim.Native.Nat.{_≤_, _-_, _+_}
 use mathlib.Core.Path.{_≡_}
 use native.Mathlib.Omega.{arith}
-use lib.ListN.{length, take, length-take}
+use lib.ListN.{length, take}
 use Rattle.output.specs.Output.{Wrote}
 use Rattle.output.proofs.Wrote.{wrote-none, word-more, word-done}
 use Rattle.output.proofs.put_word.Statement.{statement}

@@ -1,6 +1,6 @@
 -- `planner::finish` meets its contract, verdict by verdict.
 use borrow.Author.Needs.{needs}
-use mathlib.Core.Path.{_≡_, refl, sym, ap}
+use mathlib.Core.Path.{refl, sym, ap}
 use native.Mathlib.Omega.{arith}
 use Rattle.search.specs.Walk.{runNumber}
 use Rattle.planner.proofs.finish.Statement.{statement}

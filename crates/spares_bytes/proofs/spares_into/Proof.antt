@@ -23,7 +23,7 @@ returns c =
     let A = rw e at (sp .spares .ensures) in
     let B = rw (x .pre .1) at (bits .get-bits .ensures) in (
       c .check-number .ensures ∙ A .answer,
-      put .put-cells .ensures
+      put .put-fours .ensures
           ∙ ap (λ (t : List ℕ). cellBytes t (length (now (a .to)))) (B ∙ table-bits _ _ _ _ (A .table)),
     )
 

@@ -4,7 +4,7 @@ use mathlib.Core.Path.{_≡_}
 use Prim.Native.Nat.{_-_, _*_, _≤_}
 use native.Mathlib.Omega.{arith}
 use Rattle.graph_export.specs.Rows.{EdgesCounted}
-use Rattle.graph_export.proofs.Walks.{square-few, row-more, rows-few, counted-none, counted-then, counted-to}
+use Rattle.graph_export.proofs.Walks.{row-more, rows-few, counted-none, counted-then, counted-to}
 use Rattle.graph_export.proofs.edges.edge_count.Statement.{statement}
 use Rattle.graph_export.proofs.edges.edge_count.Tie as tie
 

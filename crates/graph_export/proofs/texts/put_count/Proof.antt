@@ -1,6 +1,5 @@
 -- `graph_export::texts::put_count` meets its contract.
 use borrow.Author.Needs.{needs}
-use denote.Ref.{now}
 use native.Mathlib.Omega.{arith}
 use Rattle.lines.proofs.Decimals.{decimal-few}
 use Rattle.graph_export.proofs.Walks.{count-put}

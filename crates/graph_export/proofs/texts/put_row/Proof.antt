@@ -1,6 +1,6 @@
 -- `graph_export::texts::put_row` meets its contract: the lines of the edges below the next neighbour are put.
 use borrow.Author.Needs.{needs}
-use Prim.Native.Nat.{_+_, _-_, _*_, _≤_}
+use Prim.Native.Nat.{_+_, _-_, _*_}
 use native.Mathlib.Omega.{arith}
 use Rattle.graph_export.specs.Rows.{LinesPut}
 use Rattle.graph_export.proofs.Walks.{AtNeighbour, at-neighbour, lines-start, lines-more, lines-to}

@@ -2,8 +2,7 @@
 use borrow.Author.Needs.{needs}
 use mathlib.Core.Path.{refl}
 use native.Mathlib.Omega.{arith}
-use Rattle.work_words.specs.Layout.{LaidOut}
-use Rattle.work_words.proofs.Bounds.{Bounds, bounds}
+use Rattle.work_words.proofs.Bounds.{bounds}
 use Rattle.work_words.proofs.places.lay_out.Statement.{statement}
 use Rattle.work_words.proofs.places.lay_out.Tie as tie
 

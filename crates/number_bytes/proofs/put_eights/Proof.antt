@@ -1,4 +1,4 @@
--- `count_bytes::put_counts` meets its contract: the first i bytes are those of the counts.
+-- `number_bytes::put_eights` meets its contract: the first i bytes are those of the numbers.
 use borrow.Author.Needs.{needs}
 use denote.Ref.{now}
 use Prim.Native.Nat.{_≤_, _-_}
@@ -8,12 +8,12 @@ use native.Mathlib.Omega.{arith}
 use lib.ListN.{length, drop, length-set}
 use Rattle.sets.specs.Below.{tabulate}
 use Rattle.sets.proofs.Lists.{tab-none, tab-more, tab-done}
-use Rattle.count_bytes.specs.CountBytes.{countByte, countBytes}
-use Rattle.count_bytes.proofs.put_counts.Statement.{statement}
-use Rattle.count_bytes.proofs.put_counts.Tie as tie
+use Rattle.number_bytes.specs.NumberBytes.{byteAt, numberBytes}
+use Rattle.number_bytes.proofs.put_eights.Statement.{statement}
+use Rattle.number_bytes.proofs.put_eights.Tie as tie
 
 abbrev Inv-loop : tie.InvT-loop
-Inv-loop from to₀ i₀ to i = (i ≤ length to) × (length to ≡ length to₀) × (to ≡ tabulate i (countByte from) ++ drop i to₀)
+Inv-loop from to₀ i₀ to i = (i ≤ length to) × (length to ≡ length to₀) × (to ≡ tabulate i (byteAt 8 from) ++ drop i to₀)
 
 abbrev μ-loop : tie.MeasureT-loop
 μ-loop from to₀ i₀ to i = length to - i
@@ -27,20 +27,20 @@ loop-less c = simp length-set (omega arith)
 loop-again : tie.Need-loop-again Inv-loop μ-loop
 loop-again c =
     let l = c .before .before in
-    let counts = now (l .before .before .before .args .from) in (
+    let numbers = now (l .before .before .before .args .from) in (
       simp length-set (omega arith),
       simp length-set (omega arith),
-      tab-more _ _ (countByte counts) _ _ (omega arith) (l .loop .inv .2) (c .count-byte .ensures),
+      tab-more _ _ (byteAt 8 numbers) _ _ (omega arith) (l .loop .inv .2) (c .byte-of-eights .ensures),
     )
 
 returns : tie.Need-returns Inv-loop μ-loop
-unfolding countBytes
+unfolding numberBytes
 returns c =
     let l = c .before in
-    tab-done _ _ (countByte (now (l .before .before .before .args .from))) (l .loop .i) (omega arith) (l .loop .inv .2)
+    tab-done _ _ (byteAt 8 (now (l .before .before .before .args .from))) (l .loop .i) (omega arith) (l .loop .inv .2)
 
-pub put-counts-spec : {M : Type 1} → statement M
-put-counts-spec =
+pub put-eights-spec : {M : Type 1} → statement M
+put-eights-spec =
     tie.close
     (tie.spec
     Inv-loop

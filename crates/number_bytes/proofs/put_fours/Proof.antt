@@ -1,4 +1,4 @@
--- `byte_calls::cell_bytes::put_cells` meets its contract: the first i bytes are those of the cells.
+-- `number_bytes::put_fours` meets its contract: the first i bytes are those of the numbers.
 use borrow.Author.Needs.{needs}
 use denote.Ref.{now}
 use Prim.Native.Nat.{_≤_, _-_}
@@ -8,12 +8,12 @@ use native.Mathlib.Omega.{arith}
 use lib.ListN.{length, drop, length-set}
 use Rattle.sets.specs.Below.{tabulate}
 use Rattle.sets.proofs.Lists.{tab-none, tab-more, tab-done}
-use Rattle.byte_calls.specs.ByteCalls.{cellByte, cellBytes}
-use Rattle.byte_calls.proofs.cell_bytes.put_cells.Statement.{statement}
-use Rattle.byte_calls.proofs.cell_bytes.put_cells.Tie as tie
+use Rattle.number_bytes.specs.NumberBytes.{byteAt, numberBytes}
+use Rattle.number_bytes.proofs.put_fours.Statement.{statement}
+use Rattle.number_bytes.proofs.put_fours.Tie as tie
 
 abbrev Inv-loop : tie.InvT-loop
-Inv-loop from to₀ i₀ to i = (i ≤ length to) × (length to ≡ length to₀) × (to ≡ tabulate i (cellByte from) ++ drop i to₀)
+Inv-loop from to₀ i₀ to i = (i ≤ length to) × (length to ≡ length to₀) × (to ≡ tabulate i (byteAt 4 from) ++ drop i to₀)
 
 abbrev μ-loop : tie.MeasureT-loop
 μ-loop from to₀ i₀ to i = length to - i
@@ -27,20 +27,20 @@ loop-less c = simp length-set (omega arith)
 loop-again : tie.Need-loop-again Inv-loop μ-loop
 loop-again c =
     let l = c .before .before in
-    let cells = now (l .before .before .before .args .from) in (
+    let numbers = now (l .before .before .before .args .from) in (
       simp length-set (omega arith),
       simp length-set (omega arith),
-      tab-more _ _ (cellByte cells) _ _ (omega arith) (l .loop .inv .2) (c .cell-byte .ensures),
+      tab-more _ _ (byteAt 4 numbers) _ _ (omega arith) (l .loop .inv .2) (c .byte-of-fours .ensures),
     )
 
 returns : tie.Need-returns Inv-loop μ-loop
-unfolding cellBytes
+unfolding numberBytes
 returns c =
     let l = c .before in
-    tab-done _ _ (cellByte (now (l .before .before .before .args .from))) (l .loop .i) (omega arith) (l .loop .inv .2)
+    tab-done _ _ (byteAt 4 (now (l .before .before .before .args .from))) (l .loop .i) (omega arith) (l .loop .inv .2)
 
-pub put-cells-spec : {M : Type 1} → statement M
-put-cells-spec =
+pub put-fours-spec : {M : Type 1} → statement M
+put-fours-spec =
     tie.close
     (tie.spec
     Inv-loop
