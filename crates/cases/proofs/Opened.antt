@@ -4,6 +4,7 @@ use Rattle.sets.specs.Sets
 use Rattle.channels.specs.Channels
 use Rattle.sheet_rows.specs.Form
 use Rattle.sheet_rows.specs.Rows
+use Rattle.rule_sections.specs.Rules
 use Rattle.sheet.specs.Sheet
 use Rattle.sheet.specs.Refusal
 use Rattle.rules.specs.Job
@@ -48,10 +49,10 @@ openSets = tt
 
 unfoldable pub openSheet : Unit {0}
 unfolding Form.formBy Rows.linkFirst Rows.linkCount Rows.linkWidth Sheet.linkOk Sheet.linkRowsOk Sheet.linksOk
-    Sheet.widthOk Sheet.widthRowsOk Sheet.widthsOk Sheet.freqOk Sheet.linkFreqsOk Sheet.freqsOk Sheet.before
-    Sheet.plainOk Sheet.kindOk Sheet.listed Sheet.ruleRises Sheet.ruleRowOk Sheet.ruleOk Sheet.rulesOk Sheet.pairRises
-    Sheet.pairOk
-    Sheet.rulePairsOk Sheet.pairsOk Refusal.formOk Refusal.linkCountOk Refusal.countsOk Refusal.tableOk
+    Sheet.widthOk Sheet.widthRowsOk Sheet.widthsOk Sheet.freqOk Sheet.linkFreqsOk Sheet.freqsOk Rules.before
+    Rules.plainOk Rules.kindOk Rules.listed Rules.ruleRises Rules.ruleRowOk Rules.ruleOk Rules.rulesOk Rules.pairRises
+    Rules.pairOk
+    Rules.rulePairsOk Rules.pairsOk Refusal.formOk Refusal.linkCountOk Refusal.countsOk Refusal.tableOk
     Refusal.offsetsOk Refusal.unless Refusal.sectionCause Refusal.refusal
 openSheet = tt
 

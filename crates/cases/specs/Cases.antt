@@ -102,13 +102,9 @@ bothOrNeither true b = b
 bothOrNeither false true = false
 bothOrNeither false false = true
 
--- "limit 1,000,000"
-abbrev pub settingWith : ℕ → ℕ → Setting
-settingWith filter choice = record { filter = filter; choice = choice; limit = 1000000; callers = []; counts = false }
-
--- a choice, or a caller's list
+-- a choice, or a caller's list: "limit 1,000,000"
 abbrev pub choosing : ℕ → ℕ → Setting
-choosing choice filter = settingWith filter choice
+choosing choice filter = record { filter = filter; choice = choice; limit = 1000000; callers = []; counts = false }
 
 abbrev pub listing : List ℕ → ℕ → Setting
 listing callers filter = record { filter = filter; choice = 2; limit = 1000000; callers = callers; counts = false }

@@ -1,5 +1,5 @@
--- A counting call lent 64 cells and 512 counts gives the caller what one lent more gives: a sheet has at most 64 links and
--- 512 frequencies, and what is past them is zero.
+-- A counting call lent 64 cells and 512 counts gives the caller what one lent more gives: a sheet has at most 64 links
+-- and 512 frequencies, and what is past them is zero.
 use mathlib.Core.Path.{_≡_, refl, sym, ap, _∙_}
 use mathlib.Core.Bool.{Bool, true, false, cond}
 use mathlib.Core.List.{List}

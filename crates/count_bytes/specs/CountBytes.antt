@@ -1,4 +1,4 @@
--- The counting call with numbers and byte slices: cells as bytes, four a cell, and counts, eight a count, little-endian.
+-- The counting call with numbers and byte slices: cells as bytes, four a cell, and counts, eight a count.
 use mathlib.Core.Path.{_≡_}
 use mathlib.Core.List.{List}
 use Prim.Native.Nat.{ℕ, _/_}

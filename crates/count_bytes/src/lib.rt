@@ -22,8 +22,8 @@ fn counts_lent(bytes: usize) -> usize
     if u < 512 { u } else { 512 }
 }
 
-// Counts in the cells and counts lent, and writes the cells of the plan and the tally of counts as bytes. The work words
-// are the call's own.
+// Counts in the cells and counts lent, and writes the cells of the plan and the tally of counts as bytes. The work
+// words are the call's own.
 fn count_into(
     sheet: &[u8],
     channels: &[u8],

@@ -10,9 +10,9 @@ use Rattle.sets.proofs.Tests.{and-in}
 use Rattle.sheet_rows.specs.declared.Form.{Form}
 use Rattle.sheet_rows.specs.Rows.{headerBytes, linkBytes}
 use Rattle.sheet_rows.proofs.Rows.{one-is}
-use Rattle.sheet.specs.Sheet.{kOf, nOf, qOf, tOf, mostPairs}
+use Rattle.rule_sections.specs.Rules.{mostPairs, rulesOk, pairsOk}
+use Rattle.sheet.specs.Sheet.{kOf, nOf, qOf, tOf}
 use Rattle.sheet.specs.Sheet.{freqPart, rulePart, pairPart, linksOk, widthsOk, freqsOk}
-use Rattle.sheet.specs.Sheet.{rulesOk, pairsOk}
 use Rattle.sheet.proofs.Links.{no-widths}
 use Rattle.sheet.specs.Refusal.{formOk, linkCountOk, countsOk, tableOk, offsetsOk, unless, sectionCause, refusal}
 use Rattle.dimacs.specs.Reading.{verticesOf}

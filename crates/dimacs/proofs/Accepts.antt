@@ -11,8 +11,10 @@ use Rattle.sets.specs.Below.{all, sumTo, count}
 use Rattle.sets.proofs.Tests.{bool, and-l, and-r, and-in, or-l, or-r, not-out}
 use Rattle.sets.proofs.Below.{all-in, sum-in}
 use Rattle.sheet_rows.specs.Rows.{linkFirst, linkCount, freq}
-use Rattle.sheet.specs.Sheet.{mostKHz, linkOk, linkRowsOk, linksOk, freqOk, linkFreqsOk, freqsOk, before, plainOk}
-use Rattle.sheet.specs.Sheet.{kindOk, only, listed, ruleRises, ruleRowOk, ruleOk, rulesOk, pairRises, pairOk, rulePairsOk, pairsOk}
+use Rattle.rule_sections.specs.Rules.{mostKHz, before, plainOk}
+use Rattle.sheet.specs.Sheet.{linkOk, linkRowsOk, linksOk, freqOk, linkFreqsOk, freqsOk}
+use Rattle.rule_sections.specs.Rules.{kindOk, only, listed, ruleRises, ruleRowOk, ruleOk, rulesOk, pairRises, pairOk}
+use Rattle.rule_sections.specs.Rules.{rulePairsOk, pairsOk}
 use Rattle.dimacs.specs.Reading.{countOf, firstOf, verticesOf}
 use Rattle.dimacs.specs.Made.{freqRows, isPair, pairsOf, isFull, isRuled, ruled, rulePairs, ruledA}
 use Rattle.dimacs.specs.Made.{ruledB, kindOf, valueOf, pairsBefore, ruleTotal, pairTotal, ruleRows, pairRows}

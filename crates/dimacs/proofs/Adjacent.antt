@@ -11,7 +11,7 @@ use Rattle.sets.specs.Below.{any, first, count}
 use Rattle.sets.proofs.Tests.{bool, clash, is-false, iff, and-l, and-r, and-in, not-in}
 use Rattle.sets.proofs.Below.{any-in, first-lt, first-is, sum-in, count-le, count-less}
 use Rattle.sheet_rows.specs.Rows.{linkFirst, pairFirst}
-use Rattle.sheet.specs.Sheet.{mostKHz}
+use Rattle.rule_sections.specs.Rules.{mostKHz}
 use Rattle.pair_test.specs.Layers.{layerOf, InLink}
 use Rattle.spacing.specs.Spacing.{distance, zeroOrMore, spareBy}
 use Rattle.pair_test.specs.Pairs.{samePair, listsPair, ofLinks, spareFree, spareRow}

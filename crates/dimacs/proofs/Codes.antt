@@ -10,7 +10,7 @@ use borrow.Author.Tests.{lt-ltb, eq-eqb, ltb-false}
 use Rattle.sets.specs.Below.{sumTo, count}
 use Rattle.sets.proofs.Tests.{bool, and-in, or-l, or-r}
 use Rattle.sets.proofs.Below.{count-same, count-add}
-use Rattle.sheet.specs.Sheet.{before}
+use Rattle.rule_sections.specs.Rules.{before}
 
 -- the parts of a code
 pub code-first : (m x y : ℕ) → y < m → (x * m + y) / m ≡ x

@@ -11,7 +11,7 @@ use borrow.Author.Tests.{ltb-true, ltb-false}
 use Rattle.sets.specs.Below.{one, count, sumTo}
 use Rattle.sets.proofs.Tests.{bool, below, and-l}
 use Rattle.sets.proofs.Below.{count-add, count-same, count-mono}
-use Rattle.sheet.specs.Sheet.{mostRules}
+use Rattle.rule_sections.specs.Rules.{mostRules}
 use Rattle.dimacs.specs.Made.{isRuled, isFull, ruleTotal}
 use Rattle.dimacs.proofs.Codes.{code-first, code-second}
 use Rattle.dimacs.proofs.Accepts.{rule-count, Small}

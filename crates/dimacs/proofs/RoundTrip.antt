@@ -13,7 +13,8 @@ use Rattle.sets.specs.Below.{sumTo}
 use Rattle.sets.proofs.Tests.{and-l}
 use Rattle.sets.proofs.Lists.{length-tabulate, getD-tabulate}
 use Rattle.sheet_rows.specs.Rows.{linkCount}
-use Rattle.sheet.specs.Sheet.{kOf, nOf, mostPairs, linksOk}
+use Rattle.rule_sections.specs.Rules.{mostPairs}
+use Rattle.sheet.specs.Sheet.{kOf, nOf, linksOk}
 use Rattle.sheet.specs.Refusal.{refusal, unless}
 use Rattle.sheet.proofs.Accepted.{accepted}
 use Rattle.sheet.proofs.Causes.{unless-zero}

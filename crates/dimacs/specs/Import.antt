@@ -5,7 +5,8 @@ use Prim.Native.Nat.{ℕ}
 use lib.Dec.{leb, eqb}
 use lib.ListN.{length}
 use Rattle.sets.specs.Sets.{Set}
-use Rattle.sheet.specs.Sheet.{mostPairs, endAt}
+use Rattle.rule_sections.specs.Rules.{mostPairs}
+use Rattle.sheet.specs.Sheet.{endAt}
 use Rattle.sheet.specs.Refusal.{unless}
 use Rattle.zeros.specs.Zeros.{zeros}
 use Rattle.output.specs.Output.{padded}

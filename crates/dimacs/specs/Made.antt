@@ -7,7 +7,8 @@ use lib.ListN.{length, getD}
 use Rattle.sets.specs.Below.{sumTo}
 use Rattle.sets.specs.Sets.{Set}
 use Rattle.sheet_rows.specs.Rows.{headerBytes}
-use Rattle.sheet.specs.Sheet.{mostKHz, freqsAt, rulesAt, pairsAt, endAt}
+use Rattle.rule_sections.specs.Rules.{mostKHz}
+use Rattle.sheet.specs.Sheet.{freqsAt, rulesAt, pairsAt, endAt}
 use Rattle.wire.specs.Fields.{bytes16, bytes32}
 use Rattle.dimacs.specs.Lists.{select, forEach, joinTo}
 use Rattle.dimacs.specs.Reading.{countOf, firstOf, verticesOf}

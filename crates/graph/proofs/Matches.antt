@@ -15,7 +15,8 @@ use Rattle.sets.proofs.Tests.{clash, bool, is-false, and-l, and-r, and-in, or-l
 use Rattle.sets.proofs.Below.{all-in, all-out, all-same, any-in, first-lt, first-is, first-found}
 use Rattle.channels.specs.Channels.{channelsOk, onAir}
 use Rattle.sheet_rows.specs.Rows.{linkFirst, linkCount, freq}
-use Rattle.sheet.specs.Sheet.{kOf, nOf, qOf, tOf, freqPart, rulePart, pairPart, mostKHz, freqOk, linkFreqsOk, freqsOk}
+use Rattle.rule_sections.specs.Rules.{mostKHz}
+use Rattle.sheet.specs.Sheet.{kOf, nOf, qOf, tOf, freqPart, rulePart, pairPart, freqOk, linkFreqsOk, freqsOk}
 use Rattle.sheet.specs.Refusal.{passing, refusal}
 use Rattle.sheet.proofs.Accepted.{accepted, refusal-most}
 use Rattle.rules.specs.Job.{Job, jobOf, struck, unstruck}

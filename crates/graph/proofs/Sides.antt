@@ -13,9 +13,9 @@ use Rattle.sets.proofs.Tests.{clash, bool, is-false, not-in, and-l, and-r}
 use Rattle.sets.proofs.Below.{all-out}
 use Rattle.sheet_rows.specs.Rows.{linkFirst, linkCount, linkWidth, freq, ruleA, ruleB}
 use Rattle.sheet_rows.specs.Rows.{ruleKind, ruleCount, ruleValue, pairFirst, pairSecond}
-use Rattle.sheet.specs.Sheet.{listed, pairOk, rulePairsOk, pairsOk}
+use Rattle.rule_sections.specs.Rules.{listed, pairOk, rulePairsOk, pairsOk}
 use Rattle.sheet.proofs.Links.{link-in}
-use Rattle.sheet.proofs.Rules.{rule-in}
+use Rattle.rule_sections.proofs.RuleRows.{rule-in}
 use Rattle.spacing.specs.Spacing.{distance, zeroOrMore, spareBy}
 use Rattle.pair_test.specs.Pairs.{listsPair, ruleWidths, spareFree, spareRow}
 use Rattle.pair_test.specs.Parts.{Parts}

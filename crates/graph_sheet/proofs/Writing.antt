@@ -8,7 +8,8 @@ use native.Mathlib.Omega.{arith}
 use lib.Dec.{eqb}
 use lib.ListN.{length, take, getD}
 use lib.Seq.{getD-take, length-take-le}
-use Rattle.sheet.specs.Sheet.{mostKHz, freqsAt, rulesAt, pairsAt, endAt}
+use Rattle.rule_sections.specs.Rules.{mostKHz}
+use Rattle.sheet.specs.Sheet.{freqsAt, rulesAt, pairsAt, endAt}
 use Rattle.output.specs.Output.{Wrote}
 use Rattle.output.proofs.Wrote.{wrote-none, wrote-then, wrote-same}
 use Rattle.wire.specs.Fields.{bytes16, bytes32}

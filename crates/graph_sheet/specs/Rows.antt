@@ -4,7 +4,7 @@ use mathlib.Core.List.{List, [], _++_}
 use Prim.Native.Nat.{ℕ, _/_, _%_}
 use lib.Dec.{eqb}
 use lib.ListN.{length}
-use Rattle.sheet.specs.Sheet.{mostKHz}
+use Rattle.rule_sections.specs.Rules.{mostKHz}
 use Rattle.wire.specs.Fields.{bytes16, bytes32}
 use Rattle.dimacs.specs.Lists.{forEach, joinTo}
 use Rattle.dimacs.specs.Reading.{countOf}

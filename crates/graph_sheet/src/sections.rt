@@ -6,7 +6,7 @@ ghost use Prim.Native.Nat.{ℕ, _+_, _*_, _/_, _%_, _≤_, _<_};
 ghost use lib.Dec.{eqb};
 ghost use lib.ListN.{length, take};
 ghost use Rattle.vset.specs.Words.{has};
-ghost use Rattle.sheet.specs.Sheet.{mostKHz};
+ghost use Rattle.rule_sections.specs.Rules.{mostKHz};
 ghost use Rattle.dimacs.specs.Lists.{forEach, joinTo};
 ghost use Rattle.dimacs.specs.Made.{joined, header, linkRows, freqRow, pairRow, ruleRows, pairRows, sheetOf};
 ghost use Rattle.output.specs.Output.{Wrote, mostText};

@@ -12,7 +12,7 @@ use borrow.Author.Tests.{lt-ltb, le-ltb, ltb-true, ltb-false, eq-eqb, ne-eqb, eq
 use Rattle.sets.specs.Below.{count, sumTo}
 use Rattle.sets.proofs.Tests.{clash, bool, and-l, and-r, not-out}
 use Rattle.sets.proofs.Below.{count-within, count-just, one-mono}
-use Rattle.sheet.specs.Sheet.{mostPairs}
+use Rattle.rule_sections.specs.Rules.{mostPairs}
 use Rattle.dimacs.specs.Reading.{countOf}
 use Rattle.dimacs.specs.Made.{isPair, pairsOf, isFull, isRuled, ruledA, ruledB, rulePairs, pairsBefore, ruleTotal}
 use Rattle.dimacs.specs.Made.{pairTotal}

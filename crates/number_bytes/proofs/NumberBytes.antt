@@ -22,4 +22,5 @@ byte-past w numbers i h = rw (List·getD-eq-default numbers 0 h, zero-div)
 pub same-bytes : (w room : ℕ) (a b : List ℕ) → ((i : ℕ) → getD a i 0 ≡ getD b i 0)
     → numberBytes w a room ≡ numberBytes w b room
 unfolding numberBytes byteAt
-same-bytes w room a b e = tabulate-same room (byteAt w a) (byteAt w b) (λ i l. ap (λ v. v / 256 ^ (i % w) % 256) (e (i / w)))
+same-bytes w room a b e =
+    tabulate-same room (byteAt w a) (byteAt w b) (λ i l. ap (λ v. v / 256 ^ (i % w) % 256) (e (i / w)))

@@ -15,11 +15,12 @@ use Rattle.sets.proofs.Below.{all-out, sum-in}
 use Rattle.sheet_rows.specs.Rows.{HasRow, HasLink, freqBytes, ruleBytes, pairBytes, linkBytes, linkPart, rowWidth}
 use Rattle.sheet_rows.specs.Rows.{linkFirst, linkCount, linkWidth, freq, ruleA, ruleB, ruleKind, ruleCount, ruleValue}
 use Rattle.sheet_rows.proofs.Rows.{has-link}
-use Rattle.sheet.specs.Sheet.{mostKHz, mostWidth, linksOk, listed, widthOk, widthRowsOk, widthsOk}
+use Rattle.rule_sections.specs.Rules.{mostKHz, listed}
+use Rattle.sheet.specs.Sheet.{mostWidth, linksOk, widthOk, widthRowsOk, widthsOk}
 use Rattle.sheet.specs.Sheet.{freqOk, linkFreqsOk, freqsOk, kOf, nOf, qOf, tOf, freqPart, rulePart, pairPart}
 use Rattle.sheet.specs.Accepted.{Accepted}
 use Rattle.sheet.proofs.Links.{link-first, link-sum, link-in}
-use Rattle.sheet.proofs.Rules.{rule-in}
+use Rattle.rule_sections.proofs.RuleRows.{rule-in}
 use Rattle.pair_test.specs.Layers.{layerOf, InLink}
 use Rattle.pair_test.specs.Parts.{LinkRows, Parts}
 use Rattle.pair_test.specs.Pairs.{ruleWidths}

@@ -15,8 +15,8 @@ use Rattle.sets.specs.Below.{all}
 use Rattle.sets.proofs.Below.{all-in}
 use Rattle.sets.proofs.Tests.{clash, bool, is-false, below, and-l, and-r, and-in, or-l, or-r, or-case}
 use Rattle.sheet_rows.specs.Rows.{freq, ruleA, ruleB, ruleKind, ruleValue}
-use Rattle.sheet.specs.Sheet.{mostKHz, before}
-use Rattle.sheet.proofs.Rules.{After, rule-in, rule-after}
+use Rattle.rule_sections.specs.Rules.{mostKHz, before}
+use Rattle.rule_sections.proofs.RuleRows.{After, rule-in, rule-after}
 use Rattle.spacing.specs.Spacing.{distance, zeroOrMore, spareWithout, inRange}
 use Rattle.spacing.proofs.Spacing.{distance-turned, distance-most, without-allowed, sub-range, by-range}
 use Rattle.pair_test.specs.Pairs.{ruleWidths, ofLinks, spareFree, spareRow, spare}

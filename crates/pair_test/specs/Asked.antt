@@ -5,7 +5,8 @@ use mathlib.Core.List.{List}
 use mathlib.Core.Bool.{Bool, true, false}
 use lib.IntN.{ℤ}
 use Rattle.sheet_rows.specs.Rows.{linkFirst, ruleA, ruleB, ruleCount, ruleValue}
-use Rattle.sheet.specs.Sheet.{kOf, qOf, freqPart, rulePart, pairPart, before}
+use Rattle.rule_sections.specs.Rules.{before}
+use Rattle.sheet.specs.Sheet.{kOf, qOf, freqPart, rulePart, pairPart}
 use Rattle.sheet.specs.Accepted.{Accepted}
 use Rattle.pair_test.specs.Layers.{InLink}
 use Rattle.pair_test.specs.Pairs.{listsPair, spareRow, spare}

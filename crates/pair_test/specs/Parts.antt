@@ -6,7 +6,8 @@ use mathlib.Core.Bool.{true}
 use lib.ListN.{length}
 use Rattle.sheet_rows.specs.Form.{mostLinks, mostFreqs}
 use Rattle.sheet_rows.specs.Rows.{HasLinks, freqBytes, ruleBytes, pairBytes}
-use Rattle.sheet.specs.Sheet.{linksOk, widthsOk, freqsOk, rulesOk, pairsOk}
+use Rattle.rule_sections.specs.Rules.{rulesOk, pairsOk}
+use Rattle.sheet.specs.Sheet.{linksOk, widthsOk, freqsOk}
 
 pub record Parts (s fs rs ps : List ℕ) (k n q t : ℕ) : Type 0 where
   -- "k is 1 to 64, n 1 to 512"

@@ -2,7 +2,8 @@
 ghost use mathlib.Core.Path.{_≡_};
 ghost use Prim.Native.Nat.{_≤_};
 ghost use Rattle.sheet_rows.specs.Rows.{HasRow, ruleBytes, ruleA, ruleB};
-ghost use Rattle.sheet.specs.Sheet.{qOf, rulePart, before};
+ghost use Rattle.rule_sections.specs.Rules.{before};
+ghost use Rattle.sheet.specs.Sheet.{qOf, rulePart};
 ghost use Rattle.sheet.specs.Accepted.{Accepted};
 ghost use Rattle.pair_test.specs.Asked.{ComeBefore, Sought};
 use crate::parts::rule_part;

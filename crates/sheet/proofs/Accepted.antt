@@ -13,8 +13,9 @@ use Rattle.wire.specs.Fields.{le32}
 use Rattle.sheet_rows.specs.Form.{formOf}
 use Rattle.sheet_rows.specs.Rows.{headerBytes, linkBytes}
 use Rattle.sheet_rows.proofs.Rows.{form-small}
-use Rattle.sheet.specs.Sheet.{mostRules, mostPairs, kOf, nOf, qOf, tOf, endAt}
-use Rattle.sheet.specs.Sheet.{freqPart, rulePart, pairPart, linksOk, widthsOk, freqsOk, rulesOk, pairsOk}
+use Rattle.rule_sections.specs.Rules.{mostRules, mostPairs, rulesOk, pairsOk}
+use Rattle.sheet.specs.Sheet.{kOf, nOf, qOf, tOf, endAt}
+use Rattle.sheet.specs.Sheet.{freqPart, rulePart, pairPart, linksOk, widthsOk, freqsOk}
 use Rattle.sheet.specs.Refusal.{formOk, linkCountOk, countsOk, tableOk, offsetsOk, sectionCause, refusal}
 use Rattle.sheet.specs.Accepted.{Head, Accepted}
 use Rattle.sheet.proofs.Causes.{unless-zero, passed, passing-most, unless-most}

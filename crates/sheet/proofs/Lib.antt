@@ -1,4 +1,3 @@
 pub mod Causes
 pub mod Links
-pub mod Rules
 pub mod Accepted

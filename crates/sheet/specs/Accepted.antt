@@ -6,8 +6,9 @@ use mathlib.Core.Bool.{true}
 use lib.ListN.{length}
 use Rattle.sheet_rows.specs.Form.{formOf, mostLinks, mostFreqs}
 use Rattle.sheet_rows.specs.Rows.{headerBytes, linkBytes}
-use Rattle.sheet.specs.Sheet.{mostRules, mostPairs, kOf, nOf, qOf, tOf, endAt}
-use Rattle.sheet.specs.Sheet.{freqPart, rulePart, pairPart, linksOk, widthsOk, freqsOk, rulesOk, pairsOk}
+use Rattle.rule_sections.specs.Rules.{mostRules, mostPairs, rulesOk, pairsOk}
+use Rattle.sheet.specs.Sheet.{kOf, nOf, qOf, tOf, endAt}
+use Rattle.sheet.specs.Sheet.{freqPart, rulePart, pairPart, linksOk, widthsOk, freqsOk}
 
 -- what the header's four tests say
 pub record Head (s : List ℕ) : Type 0 where

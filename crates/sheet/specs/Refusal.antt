@@ -7,8 +7,9 @@ use lib.Dec.{ltb, leb, eqb}
 use Rattle.wire.specs.Fields.{le32}
 use Rattle.sheet_rows.specs.Form.{formOf}
 use Rattle.sheet_rows.specs.Rows.{headerBytes, linkBytes}
-use Rattle.sheet.specs.Sheet.{mostRules, mostPairs, kOf, nOf, qOf, tOf, freqsAt, rulesAt, pairsAt, endAt}
-use Rattle.sheet.specs.Sheet.{freqPart, rulePart, pairPart, linksOk, widthsOk, freqsOk, rulesOk, pairsOk}
+use Rattle.rule_sections.specs.Rules.{mostRules, mostPairs, rulesOk, pairsOk}
+use Rattle.sheet.specs.Sheet.{kOf, nOf, qOf, tOf, freqsAt, rulesAt, pairsAt, endAt}
+use Rattle.sheet.specs.Sheet.{freqPart, rulePart, pairPart, linksOk, widthsOk, freqsOk}
 use Rattle.sheet.specs.declared.Cause.{Cause}
 use Rattle.sheet.specs.declared.Cause.the-variants.{Form, Links, Counts, Offsets}
 use Rattle.sheet.specs.declared.Cause.the-variants.{LinkRow, Width, Frequency, RuleRow, PairRow}

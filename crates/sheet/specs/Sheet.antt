@@ -1,29 +1,18 @@
--- The job sheet, as a list of bytes: its limits, its header, where its sections begin, and what each row has to say.
--- The rows' fields are those of `Rows`, and what goes by the form is in `Form`, crate `sheet_rows`.
+-- The job sheet, as a list of bytes: its header, where its sections begin, and what link and frequency rows have to say.
+-- The rows' fields are those of `Rows`, and what goes by the form is in `Form`, crate `sheet_rows`; rule and pair rows are
+-- in `Rules`, crate `rule_sections`.
 use Prim.Native.Nat.{ℕ, _+_, _-_, _*_}
 use mathlib.Core.List.{List}
-use mathlib.Core.Bool.{Bool, true, false, cond, not, _&&_, _||_}
+use mathlib.Core.Bool.{Bool, not, _&&_, _||_}
 use lib.ListN.{drop}
 use lib.Dec.{ltb, leb, eqb}
 use Rattle.sets.specs.Below.{all, sumTo}
 use Rattle.wire.specs.Fields.{le32}
 use Rattle.sheet_rows.specs.Rows.{headerBytes, linkBytes, linkPart, freqBytes, ruleBytes, pairBytes}
-use Rattle.sheet_rows.specs.Rows.{rowFirst, rowCount, rowWidth}
-use Rattle.sheet_rows.specs.Rows.{linkFirst, linkCount, freq, ruleA, ruleB, ruleKind, ruleCount, ruleValue}
-use Rattle.sheet_rows.specs.Rows.{pairFirst, pairSecond}
+use Rattle.sheet_rows.specs.Rows.{rowFirst, rowCount, rowWidth, linkFirst, linkCount, freq}
+use Rattle.rule_sections.specs.Rules.{mostKHz, only}
 use Rattle.sheet.specs.declared.Row.{Row}
 use Rattle.sheet.specs.declared.Row.the-variants.{Link, Bad}
-
--- "q at most 2,016, t at most 8,192"
-abbrev pub mostRules : ℕ
-mostRules = 2016
-
-abbrev pub mostPairs : ℕ
-mostPairs = 8192
-
--- "kHz, 1 to 9,999,999", and of a rule "value 1 to 9,999,999"
-abbrev pub mostKHz : ℕ
-mostKHz = 9999999
 
 -- "a 32-bit width in kHz, 1 to 20,000"
 abbrev pub mostWidth : ℕ
@@ -65,11 +54,6 @@ rulePart s = drop (rulesAt (linkBytes s) (kOf s) (nOf s)) s
 
 abbrev pub pairPart : List ℕ → List ℕ
 pairPart s = drop (pairsAt (linkBytes s) (kOf s) (nOf s) (qOf s)) s
-
--- a number where a test holds, else 0
-abbrev pub only : Bool → ℕ → ℕ
-only true n = n
-only false n = 0
 
 -- link rows, of so many bytes each
 
@@ -133,62 +117,3 @@ linkFreqsOk s p l = all (linkCount s l) (freqOk p (linkFirst s l))
 
 unfoldable pub freqsOk : List ℕ → List ℕ → ℕ → Bool
 freqsOk s p k = all k (linkFreqsOk s p)
-
--- rule rows
-
--- (a, b) comes before (c, d)
-unfoldable pub before : ℕ → ℕ → ℕ → ℕ → Bool
-before a b c d = ltb a c || (eqb a c && ltb b d)
-
--- kinds 1 and 2: "For both, count is 0 and value 1 to 9,999,999"
-unfoldable pub plainOk : ℕ → ℕ → Bool
-plainOk count value = eqb count 0 && ltb 0 value && leb value mostKHz
-
--- "Kind 3: .. count is at least 1 and value is the sum of earlier kind 3 counts", where `sum` is that sum
-unfoldable pub kindOk : ℕ → ℕ → ℕ → ℕ → Bool
-kindOk kind count value sum =
-    cond (eqb kind 3) (ltb 0 count && eqb value sum) ((eqb kind 1 || eqb kind 2) && plainOk count value)
-
--- how many pairs a rule lists: the count, for kind 3 only
-unfoldable pub listed : List ℕ → ℕ → ℕ
-listed p j = only (eqb (ruleKind p j) 3) (ruleCount p j)
-
--- "Rows rise strictly by (a, b)"
-unfoldable pub ruleRises : List ℕ → ℕ → Bool
-ruleRises p j = eqb j 0 || before (ruleA p (j - 1)) (ruleB p (j - 1)) (ruleA p j) (ruleB p j)
-
--- "links a and b (numbered from 0, a < b < k)", the order, and what the kind asks
-unfoldable pub ruleRowOk : List ℕ → ℕ → ℕ → ℕ → Bool
-ruleRowOk p k sum j =
-    ltb (ruleA p j) (ruleB p j) && ltb (ruleB p j) k
-    && ruleRises p j
-    && kindOk (ruleKind p j) (ruleCount p j) (ruleValue p j) sum
-
-unfoldable pub ruleOk : List ℕ → ℕ → ℕ → Bool
-ruleOk p k j = ruleRowOk p k (sumTo j (listed p)) j
-
--- "these sum to t"
-unfoldable pub rulesOk : List ℕ → ℕ → ℕ → ℕ → Bool
-rulesOk p k q t = all q (ruleOk p k) && eqb (sumTo q (listed p)) t
-
--- pair rows
-
--- row i comes after the row before it
-unfoldable pub pairRises : List ℕ → ℕ → Bool
-pairRises p i = before (pairFirst p (i - 1)) (pairSecond p (i - 1)) (pairFirst p i) (pairSecond p i)
-
--- "positions (from 0) in the lists of a and of b, strictly rising by (first, second) within a rule": the i-th pair of a
--- rule whose pairs start at base, between links of m and n frequencies
-unfoldable pub pairOk : List ℕ → ℕ → ℕ → ℕ → ℕ → Bool
-pairOk p base m n i =
-    ltb (pairFirst p (base + i)) m && ltb (pairSecond p (base + i)) n
-    && (eqb i 0 || pairRises p (base + i))
-
--- the pairs of rule j of the sheet, whose rule and pair sections are `rules` and p
-unfoldable pub rulePairsOk : List ℕ → List ℕ → List ℕ → ℕ → Bool
-rulePairsOk s rules p j =
-    all (listed rules j)
-    (pairOk p (ruleValue rules j) (linkCount s (ruleA rules j)) (linkCount s (ruleB rules j)))
-
-unfoldable pub pairsOk : List ℕ → List ℕ → List ℕ → ℕ → Bool
-pairsOk s rules p q = all q (rulePairsOk s rules p)

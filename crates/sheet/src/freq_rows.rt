@@ -6,7 +6,7 @@ ghost use Rattle.sets.specs.Below.{all};
 ghost use Rattle.sheet_rows.specs.Rows.{HasRow, freqBytes};
 ghost use Rattle.sheet.specs.Sheet.{freqOk, freqsOk};
 ghost use Rattle.sheet.specs.Read.{LinksRead};
-use crate::header::MOST_KHZ;
+use rule_sections::MOST_KHZ;
 use sheet_rows::freq;
 use sheet_rows::link_count;
 use sheet_rows::link_first;

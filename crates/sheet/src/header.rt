@@ -19,8 +19,6 @@ const MOST_RULES: usize = 2016;
 
 const MOST_PAIRS: usize = 8192;
 
-pub const MOST_KHZ: usize = 9999999;
-
 pub const MOST_WIDTH: usize = 20000;
 
 // Cause 1: under 40 bytes, or no form of this number.

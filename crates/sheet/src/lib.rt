@@ -4,9 +4,7 @@
 mod freq_rows;
 mod header;
 mod link_rows;
-mod pair_rows;
 mod places;
-mod rule_rows;
 mod sections;
 mod width_rows;
 

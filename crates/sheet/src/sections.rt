@@ -3,14 +3,14 @@
 ghost use mathlib.Core.Path.{_≡_};
 ghost use mathlib.Core.Bool.{true};
 ghost use Rattle.sheet.specs.Sheet.{kOf, nOf, qOf, tOf, freqPart, rulePart, pairPart};
-ghost use Rattle.sheet.specs.Sheet.{linksOk, widthsOk, freqsOk, rulesOk, pairsOk};
+ghost use Rattle.rule_sections.specs.Rules.{rulesOk, pairsOk};
+ghost use Rattle.sheet.specs.Sheet.{linksOk, widthsOk, freqsOk};
 ghost use Rattle.sheet.specs.Refusal.{numberOf, passing, unless, sectionCause};
 ghost use Rattle.sheet.specs.Accepted.{Head};
 use crate::Cause;
 use crate::Reading;
 use crate::freq_rows::freqs;
 use crate::link_rows::links;
-use crate::pair_rows::pairs;
 use crate::places::freqs_at;
 use crate::places::freqs_of;
 use crate::places::links_of;
@@ -18,8 +18,9 @@ use crate::places::pairs_at;
 use crate::places::pairs_of;
 use crate::places::rules_at;
 use crate::places::rules_of;
-use crate::rule_rows::rules;
 use crate::width_rows::widths;
+use rule_sections::pairs;
+use rule_sections::rules;
 use sheet_rows::link_bytes;
 
 // The widths of the link section.

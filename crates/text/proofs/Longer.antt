@@ -14,7 +14,8 @@ use Rattle.wire.specs.Fields.{le32}
 use Rattle.sheet_rows.specs.Form.{formOf, mostLinks}
 use Rattle.sheet_rows.specs.Rows.{headerBytes, linkBytes}
 use Rattle.sheet_rows.proofs.Rows.{form-small, rows-small}
-use Rattle.sheet.specs.Sheet.{mostRules, mostPairs, kOf, nOf, qOf, tOf, endAt}
+use Rattle.rule_sections.specs.Rules.{mostRules, mostPairs}
+use Rattle.sheet.specs.Sheet.{kOf, nOf, qOf, tOf, endAt}
 use Rattle.sheet.specs.Refusal.{formOk, linkCountOk, countsOk, tableOk, offsetsOk, passing, sectionCause, refusal}
 use Rattle.rules.specs.Job.{jobOf}
 use Rattle.work_words.specs.Layout.{workWords}

@@ -2,7 +2,7 @@
 use borrow.Author.Needs.{needs}
 use native.Mathlib.Omega.{arith}
 use lib.Dec.{eqb}
-use Rattle.sheet.specs.Sheet.{mostKHz}
+use Rattle.rule_sections.specs.Rules.{mostKHz}
 use Rattle.graph_sheet.proofs.Writing.{choice-few, rule-put}
 use Rattle.graph_sheet.proofs.sections.put_rule.Statement.{statement}
 use Rattle.graph_sheet.proofs.sections.put_rule.Tie as tie

@@ -1,6 +1,6 @@
 -- `pair_test::seek::comes_before` meets its contract.
 use borrow.Author.Needs.{needs}
-use Rattle.sheet.specs.Sheet.{before}
+use Rattle.rule_sections.specs.Rules.{before}
 use Rattle.pair_test.proofs.seek.comes_before.Statement.{statement}
 use Rattle.pair_test.proofs.seek.comes_before.Tie as tie
 

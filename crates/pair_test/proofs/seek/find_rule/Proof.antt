@@ -5,7 +5,8 @@ use mathlib.Core.Path.{_≡_, sym, _∙_}
 use mathlib.Core.Bool.{false}
 use native.Mathlib.Omega.{arith}
 use Rattle.sheet_rows.specs.Rows.{ruleA, ruleB}
-use Rattle.sheet.specs.Sheet.{qOf, rulePart, before}
+use Rattle.rule_sections.specs.Rules.{before}
+use Rattle.sheet.specs.Sheet.{qOf, rulePart}
 use Rattle.pair_test.specs.Asked.{ComeBefore}
 use Rattle.pair_test.proofs.Laws.{parts-of}
 use Rattle.pair_test.proofs.Pairing.{none-before, before-upto}

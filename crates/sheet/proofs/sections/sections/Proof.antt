@@ -5,7 +5,8 @@ use mathlib.Core.Path.{_∙_, _≡_, ap, sym}
 use mathlib.Core.Bool.{true}
 use borrow.Author.Tests.{not-false, not-true}
 use lib.Dec.{lit<}
-use Rattle.sheet.specs.Sheet.{freqPart, freqsOk, kOf, linksOk, nOf, qOf, rulePart, rulesOk, tOf, widthsOk}
+use Rattle.rule_sections.specs.Rules.{rulesOk}
+use Rattle.sheet.specs.Sheet.{freqPart, freqsOk, kOf, linksOk, nOf, qOf, rulePart, tOf, widthsOk}
 use Rattle.sheet.specs.Refusal.{numberOf, sectionCause, unless}
 use Rattle.sheet.proofs.Causes.{passed, refused-is, unless-false, unless-true, unless-zero}
 use Rattle.sheet.proofs.sections.sections.Statement.{statement}
