@@ -5,8 +5,8 @@
    guvtemi.h, which this header includes; the two functions declared there are in libconsole.a.
 
    A sheet is bytes as in docs/FORMAT.md, of form 1 or 2. A channel list is bytes too, a channel on air each, 21 to 48,
-   strictly rising; channel c covers 470,000 + 8,000(c - 21) kHz up to, but without, 8,000 more. No bytes are no list. The
-   two texts are those of docs/DIMACS.md; a text is just the bytes lent, with no zero at its end.
+   strictly rising; channel c covers 470,000 + 8,000(c - 21) kHz up to, but without, 8,000 more: docs/CHART.md has all. No
+   bytes are no list. The two texts are those of docs/DIMACS.md; a text is just the bytes lent, with no zero at its end.
 
    The caller keeps three things:
    - a pointer is null only where its length is 0;

@@ -3,19 +3,13 @@
 import re
 
 from .binary import Fault
+from .chart import FIRST, LAST, edges
 
-FIRST, LAST, LOWEST_KHZ, WIDE_KHZ = 21, 48, 470_000, 8_000
 WORD = re.compile(r"([0-9]{1,9})(?:-([0-9]{1,9}))?")
 
 
 class BadChannel(Exception):
     """What was expected of a channel, and what was found."""
-
-
-def edges(channel):
-    """The first kHz of a channel, and the first beyond it."""
-    low = LOWEST_KHZ + WIDE_KHZ * (channel - FIRST)
-    return low, low + WIDE_KHZ
 
 
 def taker(channels, khz):

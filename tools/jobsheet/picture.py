@@ -4,6 +4,7 @@ the television channels on air are shaded, and the frequencies that they take cr
 from xml.sax.saxutils import escape
 
 from . import channels as air
+from . import chart
 from . import counts as tally
 from .answer import said
 from .axis import Axis, spread
@@ -163,13 +164,13 @@ class _Picture:
         y -= 6
         self._write(16, y + 10, "TV", "quiet")
         for first, last in air.runs(self.channels):
-            seen = [(channel, place) for channel in range(first, last + 1) for place in self.axis.seen(*air.edges(channel))]
+            seen = [(channel, place) for channel in range(first, last + 1) for place in self.axis.seen(*chart.edges(channel))]
             for channel, (left, right) in seen:
-                low, high = map(mhz, air.edges(channel))
+                low, high = map(mhz, chart.edges(channel))
                 self.shapes.append(f'<rect x="{left:.1f}" y="{y}" width="{right - left:.1f}" height="13" class="air-strip">'
                                    f"<title>channel {channel} on air, {low} to {high} MHz</title></rect>")
             each = [(f"{channel}", place) for channel, place in seen]
-            whole = [(air.written(range(first, last + 1)), place) for place in self.axis.seen(air.edges(first)[0], air.edges(last)[1])]
+            whole = [(air.written(range(first, last + 1)), place) for place in self.axis.seen(chart.edges(first)[0], chart.edges(last)[1])]
             for words, (left, right) in each if all(map(_fits, each)) else filter(_fits, whole):
                 self._write((left + right) / 2, y + 10, words, "air-text", "middle")
         return y + 25
@@ -177,7 +178,7 @@ class _Picture:
     def _shade(self, bottom):
         """Behind carriers and lanes, the channels on air."""
         for channel in self.channels:
-            for left, right in self.axis.seen(*air.edges(channel)):
+            for left, right in self.axis.seen(*chart.edges(channel)):
                 self.behind.append(f'<rect x="{left:.1f}" y="{self.top:.1f}" width="{right - left:.1f}" height="{bottom - self.top:.1f}" class="air"/>')
 
     def _bracket(self, y):
