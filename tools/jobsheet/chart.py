@@ -12,7 +12,7 @@ WIDE_KHZ = 8_000  # how far a channel reaches from its lower edge; only a table 
 
 HEAD = "| channel | first kHz | last kHz |\n|---|---|---|\n"
 KHZ = r"([0-9]{1,3}(?:,[0-9]{3}){0,2})"
-CODE_TABLE = re.compile(r"^const LOWER_EDGES: \[usize; [0-9]+\] = \[([^\]]*)\];", re.MULTILINE)
+CODE_TABLE = re.compile(r"^const LOWER_EDGES: \[u32; [0-9]+\] = \[([^\]]*)\];", re.MULTILINE)
 NUMBER = re.compile(r"[0-9]{1,9}")
 REMAKE = "Write the table again with 'tools/sheet chart --remake'."
 

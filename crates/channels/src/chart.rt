@@ -3,7 +3,7 @@
 ghost use Rattle.channels.specs.Chart.{Chart};
 
 // The lower edges in kHz of channels 21 to 48, in order.
-const LOWER_EDGES: [usize; 28] = [
+const LOWER_EDGES: [u32; 28] = [
     470000, // 21
     478000, // 22
     486000, // 23
@@ -35,7 +35,7 @@ const LOWER_EDGES: [usize; 28] = [
 ];
 
 // The whole table: its promise is of all entries together.
-pub fn lower_edges() -> [usize; 28]
+pub fn lower_edges() -> [u32; 28]
     ensures { λ r. ⌜ Chart r ⌝ }
 {
     LOWER_EDGES

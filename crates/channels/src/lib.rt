@@ -41,7 +41,7 @@ fn lower_edge(c: usize) -> usize
     requires { ⌜ (21 ≤ c) × (c ≤ 48) ⌝ }
     ensures { λ r. ⌜ r ≡ lowerEdge c ⌝ }
 {
-    lower_edges()[c - 21]
+    lower_edges()[c - 21] as usize
 }
 
 // Whether channel c covers the frequency x.
