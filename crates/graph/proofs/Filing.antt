@@ -16,10 +16,10 @@ use Rattle.vset.specs.Words.{Least}
 use Rattle.vset.proofs.Words.{Word, word-at, word-nothing}
 use Rattle.rows.specs.Rows.{setAt, rowAt, Put}
 use Rattle.rows.proofs.Rows.{word-at-row, set-past}
-use Rattle.graph.specs.Strikes.{stretch}
+use Rattle.rule_strikes.specs.Strikes.{stretch}
 use Rattle.graph.specs.Buckets.{buckets, mostWide, bucketOf, bucket, sharing, onFreq, Filed}
-use Rattle.graph.proofs.Spans.{stretch-in, meet-inside, put-as, struck-none, struck-past, struck-more, just-same}
-use Rattle.graph.proofs.Strikes.{others-same}
+use Rattle.rule_strikes.proofs.Spans.{stretch-in, meet-inside, put-as, struck-none, struck-past, struck-more, just-same}
+use Rattle.rule_strikes.proofs.Strikes.{others-same}
 
 pub bucket-lt : (x : ℕ) → bucketOf x < buckets
 unfolding bucketOf

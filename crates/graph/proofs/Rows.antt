@@ -7,7 +7,6 @@ use native.Mathlib.Decide.{decLt}
 use native.Mathlib.Nat.{mul-le-mul-right}
 use native.Mathlib.Omega.{arith}
 use lib.Dec.{eqb, ltb}
-use lib.ListN.{length}
 use borrow.Author.Tests.{eqb-true, eq-eqb, lt-ltb, le-ltb}
 use Rattle.sets.specs.Sets.{Set, _∪_, _∖_, nothing, whole}
 use Rattle.sets.proofs.Tests.{clash, bool, is-false, eqb-turned, and-l, and-r}
@@ -25,12 +24,12 @@ use Rattle.rows.specs.Rows.{setAt, rowAt, Begins, Outside, Put}
 use Rattle.rows.proofs.Rows.{outside-then, outside-wide}
 use Rattle.cliques.specs.declared.Place.{Place}
 use Rattle.graph.specs.Graph.{linksDiffer, adjacent, edge}
-use Rattle.graph.specs.Rows.{RowsFit, RowsAsked, Built}
-use Rattle.graph.specs.Strikes.{stretch, sideOf, allowed, underRule, Full, Rewritten}
+use Rattle.graph.specs.Rows.{RowsAsked, Built}
+use Rattle.rule_strikes.specs.Strikes.{stretch, sideOf, allowed, underRule, Full, Rewritten}
 use Rattle.graph.specs.Buckets.{sharing, onFreq, separated}
-use Rattle.graph.proofs.Spans.{stretch-out, stretch-whole, put-as}
-use Rattle.graph.proofs.Strikes.{stretch-put, rows-join, rows-as, row-written}
-use Rattle.graph.proofs.Sides.{allowed-a, allowed-b, allows-differ}
+use Rattle.rule_strikes.proofs.Spans.{stretch-out, stretch-whole, put-as}
+use Rattle.rule_strikes.proofs.Strikes.{stretch-put, rows-join, rows-as, row-written}
+use Rattle.rule_strikes.proofs.Sides.{allowed-a, allowed-b, allows-differ}
 use Rattle.graph.proofs.Graph.{differ-in, adjacent-in, adjacent-sym, adjacent-past}
 
 -- before any rule
@@ -302,11 +301,6 @@ module _ {sheet fs rs ps : List ℕ} {k n q t : ℕ} (P : Parts sheet fs rs ps k
             B .others u h ib ∙ A .others u h ia ∙ R u h ∙ ruled-none u na nb))
 
 -- the rows before any rule, written one after another
-
--- the words were written and are as many
-pub fit-same : {w graph n lo hi : ℕ} {p q : List ℕ} → RowsFit w graph n (length p) → Outside lo hi p q
-    → RowsFit w graph n (length q)
-fit-same F x = record { wide = F .wide; small = F .small; inside = rw (x .len) (F .inside) }
 
 -- no row begins behind the last
 pub row-last : (u n w : ℕ) → u < n → u * w ≤ (n - 1) * w

@@ -2,4 +2,3 @@ pub mod Buckets
 pub mod Graph
 pub mod Matches
 pub mod Rows
-pub mod Strikes

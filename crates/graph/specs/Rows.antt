@@ -2,17 +2,12 @@
 use mathlib.Core.Path.{_≡_}
 use mathlib.Core.Bool.{Bool}
 use mathlib.Core.List.{List}
-use Prim.Native.Nat.{ℕ, _+_, _*_, _^_, _≤_, _<_}
+use Prim.Native.Nat.{ℕ, _+_, _*_, _<_}
 use Rattle.rows.specs.Rows.{rowAt, Outside}
 use Rattle.cliques.specs.declared.Place.{Place}
 use Rattle.sheet.specs.Sheet.{kOf, nOf}
 use Rattle.sheet.specs.Accepted.{Accepted}
-
--- n rows of w words from `graph` on lie in `len` words
-pub record RowsFit (w graph n len : ℕ) : Type 0 where
-  pub wide : n ≤ 64 * w
-  pub small : 64 * w < 2 ^ 64
-  pub inside : graph + n * w ≤ len
+use Rattle.rule_strikes.specs.Rows.{RowsFit}
 
 -- the place is that of an accepted sheet, and its rows lie in `len` words
 pub record RowsAsked (s : List ℕ) (place : Place) (len : ℕ) : Type 0 where

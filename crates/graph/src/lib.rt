@@ -1,9 +1,7 @@
 // The graph of a sheet, its microstructure: its adjacency rows in the work words.
 // The contracts cite `Built` of specs/Rows.antt, and `build_graph` that the rows are `edge` of specs/Graph.antt.
 mod buckets;
-mod span;
 mod start;
-mod strike;
 
 ghost use mathlib.Core.Path.{_≡_};
 ghost use Prim.Native.Nat.{ℕ, _+_, _<_};
@@ -12,34 +10,19 @@ ghost use Rattle.rows.specs.Rows.{rowAt};
 ghost use Rattle.rules.specs.Job.{jobOf};
 ghost use Rattle.pair_test.specs.Parts.{RuleRow, Sections};
 ghost use Rattle.graph.specs.Graph.{adjacent, edge};
-ghost use Rattle.graph.specs.Rows.{RowsFit, RowsAsked, Built};
+ghost use Rattle.rule_strikes.specs.Rows.{RowsFit};
+ghost use Rattle.graph.specs.Rows.{RowsAsked, Built};
 use buckets::separate_rows;
 use cliques::Place;
+use rule_strikes::rule_side;
+use rule_strikes::side_of;
 use sheet::freqs_at;
 use sheet::pairs_at;
 use sheet::rules_at;
 use sheet::rules_of;
 use sheet_rows::rule_a;
 use sheet_rows::rule_b;
-pub use span::add_span;
 use start::start_rows;
-use strike::rule_side;
-use strike::side;
-
-// One side of a rule row: its kind, value and count; the widths of its links together; the vertices of one of its links,
-// from `from` up to `upto`, whose rows it changes; and those of its other link, from `first` up to `end`, of which it
-// leaves there what it allows. `turned` where the other link is the lower one.
-struct Side {
-    pub kind: usize,
-    pub value: usize,
-    pub count: usize,
-    pub widths: usize,
-    pub turned: bool,
-    pub from: usize,
-    pub upto: usize,
-    pub first: usize,
-    pub end: usize,
-}
 
 // Rule row j: in the rows of each of its links, of the other link what it allows.
 fn apply_rule(
@@ -60,9 +43,9 @@ fn apply_rule(
 {
     let a = rule_a(rs, j);
     let b = rule_b(rs, j);
-    let lower = side(sheet, rs, j, false, a, b);
+    let lower = side_of(sheet, rs, j, false, a, b);
     rule_side(part, place, fs, ps, lower);
-    let higher = side(sheet, rs, j, true, b, a);
+    let higher = side_of(sheet, rs, j, true, b, a);
     rule_side(part, place, fs, ps, higher);
 }
 

@@ -7,11 +7,12 @@ ghost use Rattle.sheet_rows.specs.Rows.{linkFirst, linkCount};
 ghost use Rattle.rows.specs.Rows.{setAt, rowAt, Begins, Reads, Put};
 ghost use Rattle.pair_test.specs.Parts.{LinkRows};
 ghost use Rattle.graph.specs.Graph.{linksDiffer};
-ghost use Rattle.graph.specs.Rows.{RowsFit, Built};
-ghost use Rattle.graph.specs.Strikes.{stretch, Rewritten};
-use crate::span::add_span;
-use crate::span::take_span;
+ghost use Rattle.rule_strikes.specs.Rows.{RowsFit};
+ghost use Rattle.graph.specs.Rows.{Built};
+ghost use Rattle.rule_strikes.specs.Strikes.{stretch, Rewritten};
 use cliques::Place;
+use rule_strikes::add_span;
+use rule_strikes::take_span;
 use sheet_rows::link_count;
 use sheet_rows::link_first;
 

@@ -15,9 +15,9 @@ use Rattle.rows.specs.Rows.{setAt, rowAt, Outside}
 use Rattle.rows.proofs.Rows.{below}
 use Rattle.graph.specs.Graph.{edge}
 use Rattle.graph.specs.Rows.{Built}
-use Rattle.graph.specs.Strikes.{stretch, Rewritten}
+use Rattle.rule_strikes.specs.Strikes.{stretch, Rewritten}
 use Rattle.graph.proofs.Graph.{unstruck-in, unstruck-out, edge-in, edge-out}
-use Rattle.graph.proofs.Spans.{stretch-in}
+use Rattle.rule_strikes.proofs.Spans.{stretch-in}
 use Rattle.strikes.specs.Struck.{leftOf}
 
 module _ (job : Job) where

@@ -9,7 +9,7 @@ use Rattle.sheet.specs.Sheet.{nOf}
 use Rattle.sheet.specs.Accepted.{Accepted}
 use Rattle.rules.specs.Job.{Job, struck, unstruck}
 use Rattle.cliques.specs.declared.Place.{Place}
-use Rattle.graph.specs.Rows.{RowsFit}
+use Rattle.rule_strikes.specs.Rows.{RowsFit}
 
 -- the place is that of an accepted sheet, its rows lie in `len` words behind the root row, and the list may be lent
 pub record StrikesAsked (s channels : List ℕ) (place : Place) (len : ℕ) : Type 0 where

@@ -11,7 +11,7 @@ use Rattle.sheet.specs.Sheet.{nOf}
 use Rattle.rules.specs.Job.{Job, unstruck}
 use Rattle.cliques.specs.declared.Place.{Place}
 use Rattle.graph.specs.Rows.{Built}
-use Rattle.graph.specs.Strikes.{Rewritten}
+use Rattle.rule_strikes.specs.Strikes.{Rewritten}
 use Rattle.strikes.specs.Struck.{StrikesAsked}
 use Rattle.work_words.specs.Layout.{LaidOut}
 use Rattle.work_words.specs.Filled.{Placed, MasksCut}

@@ -2,13 +2,14 @@
 use borrow.Author.Needs.{needs}
 use native.Mathlib.Omega.{arith}
 use Rattle.pair_test.proofs.Laws.{links-within}
-use Rattle.graph.proofs.Sides.{fits-a, fits-b}
-use Rattle.graph.proofs.Rows.{fit-same, full-a, full-b, rule-built}
+use Rattle.rule_strikes.proofs.Sides.{fits-a, fits-b}
+use Rattle.rule_strikes.proofs.Strikes.{fit-same}
+use Rattle.graph.proofs.Rows.{full-a, full-b, rule-built}
 use Rattle.graph.proofs.apply_rule.Statement.{statement}
 use Rattle.graph.proofs.apply_rule.Tie as tie
 
-side-requires : tie.Need-side-requires
-side-requires c κs =
+side-of-requires : tie.Need-side-of-requires
+side-of-requires c κs =
     let s = c .before .before .before .before .before .before .before in
     let o = links-within (s .pre .0 .0 .parts) (s .args .j) (s .pre .0 .0 .among) in
     rw (c .before .rule-a .ensures .0, c .rule-b .ensures .0) (o .0, o .1, o .2)
@@ -18,7 +19,7 @@ rule-side-requires c κs =
     let y = c .before .before .before in
     let s = y .before .before .before .before .before .before in
     let x = rw (y .rule-a .ensures .0, c .before .before .rule-b .ensures .0)
-    at (c .before .side .ensures) in
+    at (c .before .side-of .ensures) in
     rw x (
       fits-a (s .pre .0 .0 .parts) (s .args .j) (s .pre .0 .0 .among),
       s .pre .0 .1,
@@ -26,8 +27,8 @@ rule-side-requires c κs =
       full-a (s .pre .0 .0 .parts) (s .args .j) (s .pre .0 .0 .among) (s .pre .1),
     )
 
-side-requires-2 : tie.Need-side-requires-2
-side-requires-2 c κs =
+side-of-requires-2 : tie.Need-side-of-requires-2
+side-of-requires-2 c κs =
     let r = c .before .before .before .before .before in
     let s = r .before .before .before .before .before .before .before in
     let o = links-within (s .pre .0 .0 .parts) (s .args .j) (s .pre .0 .0 .among) in
@@ -42,8 +43,8 @@ rule-side-requires-2 c κs =
     let s = x₂ .before .before .before .before .before .before in
     let ra = x₂ .rule-a .ensures .0 in
     let rb = z₁ .rule-b .ensures .0 in
-    let x = rw (ra, rb) at (c .before .side2 .ensures) in
-    let y = rw (ra, rb) at (y₁ .side .ensures) in
+    let x = rw (ra, rb) at (c .before .side-of2 .ensures) in
+    let y = rw (ra, rb) at (y₁ .side-of .ensures) in
     let z = x₁ .rule-side .ensures in
     rw x (
       fits-b (s .pre .0 .0 .parts) (s .args .j) (s .pre .0 .0 .among),
@@ -62,8 +63,8 @@ returns c =
     let s = x₂ .before .before .before .before .before .before in
     let ra = x₂ .rule-a .ensures .0 in
     let rb = z₁ .rule-b .ensures .0 in
-    let x = rw (ra, rb) at (y₁ .side .ensures) in
-    let y = rw (ra, rb) at (z .side2 .ensures) in
+    let x = rw (ra, rb) at (y₁ .side-of .ensures) in
+    let y = rw (ra, rb) at (z .side-of2 .ensures) in
     rule-built (s .pre .0 .0 .parts) (s .args .j) (s .pre .0 .0 .among)
     (rw x at (x₁ .rule-side .ensures))
     (rw y at (c .before .before .rule-side2 .ensures)) (s .pre .1)
@@ -74,9 +75,9 @@ apply-rule-spec =
     (tie.spec
     (λ c κs. search needs)
     (λ c κs. search needs)
-    side-requires
+    side-of-requires
     rule-side-requires
-    side-requires-2
+    side-of-requires-2
     rule-side-requires-2
     (λ c. search needs)
     returns)

@@ -7,8 +7,10 @@ use lib.ListN.{length}
 use Rattle.rows.proofs.Rows.{outside-none, outside-then}
 use Rattle.pair_test.proofs.Laws.{link-rows}
 use Rattle.graph.specs.Graph.{adjacent}
-use Rattle.graph.specs.Rows.{RowsFit, Built}
-use Rattle.graph.proofs.Rows.{fit-same, separated-built}
+use Rattle.rule_strikes.specs.Rows.{RowsFit}
+use Rattle.graph.specs.Rows.{Built}
+use Rattle.rule_strikes.proofs.Strikes.{fit-same}
+use Rattle.graph.proofs.Rows.{separated-built}
 use Rattle.graph.proofs.build_rows.Statement.{statement}
 use Rattle.graph.proofs.build_rows.Tie as tie
 

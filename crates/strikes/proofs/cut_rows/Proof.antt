@@ -5,9 +5,9 @@ use mathlib.Core.Path.{_≡_, refl, ap}
 use native.Mathlib.Omega.{arith}
 use Rattle.sets.specs.Sets.{Set, _∩_}
 use Rattle.rows.specs.Rows.{setAt}
-use Rattle.graph.specs.Strikes.{Rewritten}
-use Rattle.graph.proofs.Spans.{put-as}
-use Rattle.graph.proofs.Strikes.{rows-none, rows-join, row-written}
+use Rattle.rule_strikes.specs.Strikes.{Rewritten}
+use Rattle.rule_strikes.proofs.Spans.{put-as}
+use Rattle.rule_strikes.proofs.Strikes.{rows-none, rows-join, row-written}
 use Rattle.strikes.proofs.Struck.{root-stays}
 use Rattle.strikes.proofs.cut_rows.Statement.{statement}
 use Rattle.strikes.proofs.cut_rows.Tie as tie

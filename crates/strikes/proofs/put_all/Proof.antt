@@ -5,9 +5,9 @@ use Prim.Native.Nat.{ℕ}
 use native.Mathlib.Omega.{arith}
 use borrow.Author.Tests.{le-leb}
 use Rattle.sets.specs.Sets.{whole}
-use Rattle.graph.specs.Strikes.{stretch}
-use Rattle.graph.proofs.Spans.{put-as}
-use Rattle.graph.proofs.Strikes.{stretch-put}
+use Rattle.rule_strikes.specs.Strikes.{stretch}
+use Rattle.rule_strikes.proofs.Spans.{put-as}
+use Rattle.rule_strikes.proofs.Strikes.{stretch-put}
 use Rattle.strikes.proofs.put_all.Statement.{statement}
 use Rattle.strikes.proofs.put_all.Tie as tie
 

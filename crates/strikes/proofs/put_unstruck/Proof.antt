@@ -9,8 +9,8 @@ use Rattle.sheet.specs.Sheet.{nOf}
 use Rattle.rules.specs.Job.{jobWith, struck}
 use Rattle.rows.specs.Rows.{setAt, Put}
 use Rattle.rows.proofs.Rows.{outside-then}
-use Rattle.graph.specs.Strikes.{stretch}
-use Rattle.graph.proofs.Spans.{struck-none, struck-more}
+use Rattle.rule_strikes.specs.Strikes.{stretch}
+use Rattle.rule_strikes.proofs.Spans.{struck-none, struck-more}
 use Rattle.strikes.proofs.Struck.{all-struck}
 use Rattle.strikes.proofs.put_unstruck.Statement.{statement}
 use Rattle.strikes.proofs.put_unstruck.Tie as tie

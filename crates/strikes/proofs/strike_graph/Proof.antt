@@ -7,9 +7,8 @@ use native.Mathlib.Omega.{arith}
 use lib.ListN.{length}
 use Rattle.rules.specs.Job.{jobWith, unstruck}
 use Rattle.rows.specs.Rows.{setAt}
-use Rattle.graph.specs.Strikes.{Rewritten}
-use Rattle.graph.proofs.Strikes.{rows-none, rows-join}
-use Rattle.graph.proofs.Rows.{fit-same}
+use Rattle.rule_strikes.specs.Strikes.{Rewritten}
+use Rattle.rule_strikes.proofs.Strikes.{rows-none, rows-join, fit-same}
 use Rattle.strikes.specs.Struck.{StrikesAsked, leftOf}
 use Rattle.strikes.proofs.Struck.{graph-struck, root-stays}
 use Rattle.strikes.proofs.strike_graph.Statement.{statement}

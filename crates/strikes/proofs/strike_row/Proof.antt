@@ -3,8 +3,8 @@ use borrow.Author.Needs.{needs}
 use denote.Ref.{now}
 use mathlib.Core.Path.{sym, _∙_}
 use Rattle.rules.specs.Job.{jobWith}
-use Rattle.graph.proofs.Strikes.{row-written}
-use Rattle.graph.proofs.Spans.{put-as}
+use Rattle.rule_strikes.proofs.Strikes.{row-written}
+use Rattle.rule_strikes.proofs.Spans.{put-as}
 use Rattle.strikes.specs.Struck.{leftOf}
 use Rattle.strikes.proofs.Struck.{left-none, left-some}
 use Rattle.strikes.proofs.strike_row.Statement.{statement}

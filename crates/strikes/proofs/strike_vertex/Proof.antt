@@ -2,7 +2,7 @@
 use borrow.Author.Needs.{needs}
 use mathlib.Core.Path.{sym, _∙_}
 use borrow.Author.Tests.{not-true, not-false}
-use Rattle.graph.proofs.Spans.{struck-yes, struck-no}
+use Rattle.rule_strikes.proofs.Spans.{struck-yes, struck-no}
 use Rattle.strikes.proofs.strike_vertex.Statement.{statement}
 use Rattle.strikes.proofs.strike_vertex.Tie as tie
 

@@ -4,11 +4,10 @@ use Prim.Native.Nat.{_-_, _≤_}
 use mathlib.Core.Path.{_≡_}
 use native.Mathlib.Omega.{arith}
 use lib.ListN.{length}
-use Rattle.graph.specs.Rows.{RowsFit}
-use Rattle.graph.specs.Strikes.{Rewritten}
+use Rattle.rule_strikes.specs.Rows.{RowsFit}
+use Rattle.rule_strikes.specs.Strikes.{Rewritten}
 use Rattle.graph.specs.Buckets.{separated}
-use Rattle.graph.proofs.Strikes.{rows-none, rows-join}
-use Rattle.graph.proofs.Rows.{fit-same}
+use Rattle.rule_strikes.proofs.Strikes.{rows-none, rows-join, fit-same}
 use Rattle.graph.proofs.buckets.separate_all.Statement.{statement}
 use Rattle.graph.proofs.buckets.separate_all.Tie as tie
 

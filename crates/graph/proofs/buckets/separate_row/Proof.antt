@@ -1,7 +1,7 @@
 -- `graph::buckets::separate_row` meets its contract.
 use borrow.Author.Needs.{needs}
 use Rattle.graph.specs.Buckets.{separated}
-use Rattle.graph.proofs.Strikes.{row-written}
+use Rattle.rule_strikes.proofs.Strikes.{row-written}
 use Rattle.graph.proofs.buckets.separate_row.Statement.{statement}
 use Rattle.graph.proofs.buckets.separate_row.Tie as tie
 

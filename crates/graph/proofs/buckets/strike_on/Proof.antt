@@ -2,7 +2,7 @@
 use borrow.Author.Needs.{needs}
 use borrow.Author.Tests.{eq-eqb, ne-eqb}
 use Rattle.graph.specs.Buckets.{sharing}
-use Rattle.graph.proofs.Spans.{struck-yes, struck-no}
+use Rattle.rule_strikes.proofs.Spans.{struck-yes, struck-no}
 use Rattle.graph.proofs.buckets.strike_on.Statement.{statement}
 use Rattle.graph.proofs.buckets.strike_on.Tie as tie
 

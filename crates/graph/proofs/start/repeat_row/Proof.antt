@@ -7,11 +7,10 @@ use lib.ListN.{length}
 use Rattle.sets.specs.Sets.{Set}
 use Rattle.rows.specs.Rows.{rowAt}
 use Rattle.rows.proofs.Rows.{row-inside}
-use Rattle.graph.specs.Rows.{RowsFit}
-use Rattle.graph.specs.Strikes.{Rewritten}
-use Rattle.graph.proofs.Spans.{put-as}
-use Rattle.graph.proofs.Strikes.{rows-none, rows-join, row-written}
-use Rattle.graph.proofs.Rows.{fit-same}
+use Rattle.rule_strikes.specs.Rows.{RowsFit}
+use Rattle.rule_strikes.specs.Strikes.{Rewritten}
+use Rattle.rule_strikes.proofs.Spans.{put-as}
+use Rattle.rule_strikes.proofs.Strikes.{rows-none, rows-join, row-written, fit-same}
 use Rattle.graph.proofs.start.repeat_row.Statement.{statement}
 use Rattle.graph.proofs.start.repeat_row.Tie as tie
 

@@ -7,7 +7,8 @@ use native.Mathlib.Omega.{arith}
 use Rattle.sheet_rows.specs.Rows.{linkFirst, linkCount}
 use Rattle.sheet_rows.proofs.Rows.{has-link}
 use Rattle.sheet.proofs.Links.{link-in, link-some}
-use Rattle.graph.proofs.Rows.{fit-same, row-last, link-written}
+use Rattle.rule_strikes.proofs.Strikes.{fit-same}
+use Rattle.graph.proofs.Rows.{row-last, link-written}
 use Rattle.graph.proofs.start.start_link.Statement.{statement}
 use Rattle.graph.proofs.start.start_link.Tie as tie
 

@@ -2,8 +2,8 @@
 use borrow.Author.Needs.{needs}
 use mathlib.Core.Path.{refl}
 use Rattle.sets.specs.Sets.{_∖_}
-use Rattle.graph.specs.Strikes.{stretch}
-use Rattle.graph.proofs.Spans.{put-then}
+use Rattle.rule_strikes.specs.Strikes.{stretch}
+use Rattle.rule_strikes.proofs.Spans.{put-then}
 use Rattle.graph.proofs.start.start_row.Statement.{statement}
 use Rattle.graph.proofs.start.start_row.Tie as tie
 

@@ -11,10 +11,10 @@ use Rattle.sheet_rows.specs.Rows.{linkCount}
 use Rattle.sheet.proofs.Links.{link-first, link-sum, link-some, link-in}
 use Rattle.rows.proofs.Rows.{outside-then}
 use Rattle.graph.specs.Graph.{linksDiffer}
-use Rattle.graph.specs.Rows.{RowsFit}
-use Rattle.graph.specs.Strikes.{Rewritten}
-use Rattle.graph.proofs.Strikes.{rows-none, rows-join}
-use Rattle.graph.proofs.Rows.{every-put, fit-same}
+use Rattle.rule_strikes.specs.Rows.{RowsFit}
+use Rattle.rule_strikes.specs.Strikes.{Rewritten}
+use Rattle.rule_strikes.proofs.Strikes.{rows-none, rows-join, fit-same}
+use Rattle.graph.proofs.Rows.{every-put}
 use Rattle.graph.proofs.start.start_rows.Statement.{statement}
 use Rattle.graph.proofs.start.start_rows.Tie as tie
 

@@ -1,0 +1,3 @@
+pub mod Spans
+pub mod Strikes
+pub mod Sides
