@@ -1,16 +1,25 @@
-/* Plans a sheet through the console library as often as asked, with the arguments and the output of plain.cpp. */
+/* Plans a sheet through the console library as often as asked, with the arguments and the output of plain.cpp. With
+   -DDESK the sheet goes through the desk library, with no channel on air: its planning call takes form 3 too. */
 
 #define _POSIX_C_SOURCE 200809L
-#include "guvtemi.h"
+#include "guvtemi_desk.h"
 
 #include <stdio.h>
 #include <stdlib.h>
 #include <string.h>
 #include <time.h>
 
+#ifdef DESK
+#define NAME "desk"
+enum { MOST_LINKS = 128 };
+#else
+#define NAME "console"
+enum { MOST_LINKS = 64 };
+#endif
+
 static const char usage[] =
-    "usage: console SHEET FILTER CHOICE LIMIT [SECONDS [CLASSES]]\n"
-    "Plans SHEET through the console library. Prints the answer, the nodes, and the plan in kHz in link order. With SECONDS\n"
+    "usage: " NAME " SHEET FILTER CHOICE LIMIT [SECONDS [CLASSES]]\n"
+    "Plans SHEET through the " NAME " library. Prints the answer, the nodes, and the plan in kHz in link order. With SECONDS\n"
     "above 0 the call is repeated for that long, and a second line gives the processor time of one call and the calls timed.\n"
     "CLASSES is a file of one byte a vertex, for choice 2.\n";
 
@@ -18,7 +27,7 @@ static size_t read_file(const char *path, uint8_t *bytes, size_t most)
 {
     FILE *file = fopen(path, "rb");
     if (file == NULL) {
-        fprintf(stderr, "console: cannot read %s\n", path);
+        fprintf(stderr, NAME ": cannot read %s\n", path);
         exit(2);
     }
     size_t length = fread(bytes, 1, most, file);
@@ -34,9 +43,19 @@ static double processor_time(void)
     return (double)t.tv_sec + 1e-9 * (double)t.tv_nsec;
 }
 
+static uint8_t sheet[GUVTEMI_ENOUGH_SHEET_BYTES + 1], classes[1024], cells[4 * MOST_LINKS];
+
+static uint64_t plan(size_t length, uint32_t filter, uint32_t choice, uint32_t limit, size_t listed)
+{
+#ifdef DESK
+    return guvtemi_plan_job(sheet, length, NULL, 0, filter, choice, limit, classes, listed, cells, sizeof cells);
+#else
+    return guvtemi_plan(sheet, length, filter, choice, limit, classes, listed, cells, sizeof cells);
+#endif
+}
+
 int main(int argc, char **argv)
 {
-    static uint8_t sheet[GUVTEMI_MOST_SHEET_BYTES + 1], classes[1024], cells[4 * GUVTEMI_MOST_LINKS];
     if (argc == 2 && strcmp(argv[1], "--help") == 0) {
         fputs(usage, stdout);
         return 0;
@@ -58,7 +77,7 @@ int main(int argc, char **argv)
     for (;; calls *= 2) {
         double start = processor_time();
         for (long i = 0; i < calls; i++)
-            returned = guvtemi_plan(sheet, length, filter, choice, limit, classes, listed, cells, sizeof cells);
+            returned = plan(length, filter, choice, limit, listed);
         took = processor_time() - start;
         if (took >= seconds)
             break;

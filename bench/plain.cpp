@@ -42,12 +42,11 @@ double processor_time() {
     return double(t.tv_sec) + 1e-9 * double(t.tv_nsec);
 }
 
-// The whole planning call.
-Outcome plan(const std::vector<uint8_t> &bytes, const Settings &set, Parts &parts) {
+// Graph, partition and search with sets of so many words.
+template <int words> Outcome plan_sheet(const Sheet &sheet, const Settings &set, Parts &parts) {
     auto now = [&] { return parts.on ? processor_time() : 0; };
-    Sheet sheet = read_sheet(bytes);
     double t0 = now();
-    Graph graph = build_graph(sheet);
+    Graph<words> graph = build_graph<words>(sheet);
     double t1 = now();
     std::vector<int> cls = set.choice == 1 ? greedy(sheet, graph) : graph.layer;
     if (set.choice == 2) {
@@ -57,7 +56,7 @@ Outcome plan(const std::vector<uint8_t> &bytes, const Settings &set, Parts &part
             if (c >= sheet.k) fail("a class is not below the number of links");
     }
     double t2 = now();
-    Search search(sheet, graph, cls, set.filter, set.limit);
+    Search<words> search(sheet, graph, cls, set.filter, set.limit);
     Outcome outcome;
     outcome.verdict = search.run();
     outcome.nodes = search.nodes;
@@ -70,6 +69,12 @@ Outcome plan(const std::vector<uint8_t> &bytes, const Settings &set, Parts &part
     parts.partition += t2 - t1;
     parts.search += t3 - t2;
     return outcome;
+}
+
+// The whole planning call.
+Outcome plan(const std::vector<uint8_t> &bytes, const Settings &set, Parts &parts) {
+    Sheet sheet = read_sheet(bytes);
+    return sheet.fits(few_words) ? plan_sheet<few_words>(sheet, set, parts) : plan_sheet<many_words>(sheet, set, parts);
 }
 
 const char *usage =

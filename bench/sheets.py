@@ -1,11 +1,12 @@
 """Sheets to measure with, each made from a fixed seed."""
 
+import itertools
 import math
 import random
 from dataclasses import dataclass
 
 from jobsheet import desk
-from jobsheet.binary import EXACT, LISTED, MOST_KHZ, SPACING, Rule, Sheet, decode
+from jobsheet.binary import EXACT, LISTED, MOST_KHZ, MOST_RULES, SPACING, Rule, Sheet, decode
 
 RASTER = 25  # kHz
 
@@ -27,7 +28,7 @@ def spaced(seed, links, frequencies, band, density, value):
 
 
 def edged(seed, links, frequencies, band, density, value):
-    """The same in form 2: links 25 to 375 kHz wide, this value between edges."""
+    """The same in form 2, or 3 where the sheet is too large for 2: links 25 to 375 kHz wide, this value between edges."""
     sheet, rng = spaced(seed, links, frequencies, band, density, value), random.Random(seed)
     return Sheet(sheet.links, sheet.rules, [rng.choice((25, 200, 375)) for _ in sheet.links])
 
@@ -51,6 +52,24 @@ def theatre(seed):
     rules += [Rule(a, b, SPACING, 1000) for a, b in ((13, 14), (14, 15))]
     rules.append(Rule(13, 15, EXACT, abs(lists[13][2] - lists[15][3]) or RASTER))
     return Sheet(lists, sorted(rules, key=lambda rule: (rule.a, rule.b)))
+
+
+def festival(seed):
+    """96 links on six stages in a row, 16 a stage: ten body packs, four ear monitors, a talkback and its return 3,000 kHz above. Any two links of
+    one stage are spaced, and, less far, any two of neighbouring stages."""
+    rng = random.Random(seed)
+    packs, ears, talk = range(606_000, 618_001, RASTER), range(823_000, 829_501, RASTER), range(863_000, 865_001, RASTER)
+    lists, rules = [], []
+    for _ in range(6):
+        lists += [sorted(rng.sample(band, 10)) for band in [packs] * 10 + [ears] * 4 + [talk]]
+        lists.append([khz + 3000 for khz in lists[-1]])
+    for a, b in itertools.combinations(range(len(lists)), 2):
+        stages = b // 16 - a // 16
+        if stages == 0 and a % 16 == 14:
+            rules.append(Rule(a, b, EXACT, 3000))
+        elif stages < 2:
+            rules.append(Rule(a, b, SPACING, 100 if stages else 300))
+    return Sheet(lists, rules, ([200] * 10 + [375] * 4 + [25] * 2) * 6)
 
 
 def crowded(links, frequencies):
@@ -88,6 +107,10 @@ def samples(quick=False):
     found += [Sample("64 × 8 loose", f"seed {seed}", spaced(seed, 64, 8, 10_000, 0.3, 500)) for seed in range(1, 1 + min(most, 2))]
     found += [Sample("64 × 8 near the edge", f"seed {seed}", spaced(seed, 64, 8, 10_000, 0.05, 3200)) for seed in range(1, 1 + most)]
     found += [Sample("64 × 8 near the edge, form 2", f"seed {seed}", edged(seed, 64, 8, 10_000, 0.05, 3000)) for seed in range(1, 1 + min(most, 2))]
+    found += [Sample("128 × 8 near the edge, form 3", f"seed {seed}", edged(seed, 128, 8, 10_000, 0.025, 2700)) for seed in range(1, 1 + min(most, 2))]
+    found += [Sample("festival, form 3", f"96 × 10, seed {seed}", festival(seed)) for seed in range(1, 1 + min(most, 3))]
+    found += [Sample("2 × 512 near the edge, form 3", f"seed {seed}", edged(seed, 2, 512, 100_000, 1, 99_600)) for seed in range(2, 2 + min(most, 2))]
+    found += [Sample("16 × 64 near the edge, form 3", f"seed {seed}", edged(seed, 16, 64, 25_000, 0.3, 8000)) for seed in range(1, 1 + min(most, 2))]
     found += [Sample("20 × 25 near the edge", f"seed {seed}", spaced(seed, 20, 25, 10_000, 0.3, 2950)) for seed in range(1, 1 + most)]
     for links, density, allowed in ((20, 0.4, 39), (25, 0.32, 39), (30, 0.27, 39)):
         found += [Sample("tables near the edge", f"{links} × 8, seed {seed}", tables(seed, links, 8, density, allowed))
@@ -98,12 +121,20 @@ def samples(quick=False):
 
 
 def building_samples(quick=False):
-    """The sheets on which building is measured: the first of each family, and two without a rule whose links share many frequencies."""
+    """The sheets on which building is measured: the first of each family, two without a rule whose links share many frequencies, and one of form 3
+    with as many rules as can be."""
     first = {}
     for sample in samples(quick):
         first.setdefault(sample.family, sample)
     return [*first.values(), Sample("no rule", "64 × 8 of 40 frequencies", spaced(1, 64, 8, 1000, 0, 1)),
-            Sample("no rule", "2 × 256 of 400 frequencies", spaced(1, 2, 256, 10_000, 0, 1))]
+            Sample("no rule", "2 × 256 of 400 frequencies", spaced(1, 2, 256, 10_000, 0, 1)),
+            Sample("most rules, form 3", f"128 × 8, {MOST_RULES:,} rules", most_rules(1, 128, 8))]
+
+
+def most_rules(seed, links, frequencies):
+    """Random lists and widths, and as many rules as a sheet can have."""
+    bare = edged(seed, links, frequencies, 10_000, 0, 1)
+    return Sheet(bare.links, [Rule(a, b, SPACING, 500) for a, b in drawn(seed, bare.links, MOST_RULES)], bare.widths)
 
 
 def apart(seed, links=64, frequencies=8):
@@ -115,7 +146,7 @@ def apart(seed, links=64, frequencies=8):
 
 def drawn(seed, lists, most):
     """So many of the links' pairs, drawn at random and rising."""
-    every = [(a, b) for a in range(len(lists)) for b in range(a + 1, len(lists))]
+    every = list(itertools.combinations(range(len(lists)), 2))
     return sorted(random.Random(seed).sample(every, most))
 
 

@@ -14,7 +14,8 @@ using Input = std::span<const uint8_t>;
 using Output = std::span<uint8_t>;
 
 constexpr size_t most_graph_bytes = 1235834, most_count_bytes = 177, most_sheet_bytes = 59304;
-constexpr uint32_t most_links = 64, most_vertices = 512, most_pairs = 8192, most_khz = 9999999;
+constexpr uint32_t most_pairs = 8192, most_khz = 9999999;
+constexpr int words = few_words;  // 64 links and 512 vertices at most
 
 // Bytes put one after another into an output.
 struct Writer {
@@ -57,9 +58,9 @@ inline size_t write_counts(const Sheet &s, Output out) {
     return text.close(out);
 }
 
-inline size_t write_graph(const Sheet &s, const Graph &g, Output out) {
+inline size_t write_graph(const Sheet &s, const Graph<words> &g, Output out) {
     int ends = 0;
-    for (const Set &row : g.row) ends += row.count();
+    for (const Set<words> &row : g.row) ends += row.count();
     Writer text{out.data()};
     text.word("p edge ");
     text.decimal(uint32_t(s.n));
@@ -87,7 +88,8 @@ struct Lengths {
 inline Lengths export_sheet(const std::vector<uint8_t> &sheet, Output graph, Output counts) {
     if (graph.size() < most_graph_bytes || counts.size() < most_count_bytes) fail("an output is too short");
     Sheet s = read_sheet(sheet);
-    return {write_graph(s, build_graph(s), graph), write_counts(s, counts)};
+    if (!s.fits(words)) fail("the sheet is too large");
+    return {write_graph(s, build_graph<words>(s), graph), write_counts(s, counts)};
 }
 
 // A text read byte after byte.
@@ -118,14 +120,14 @@ struct Reader {
 struct Edges {
     int n = 0;
     std::vector<int> first, count, layer;
-    std::array<Set, most_vertices> row{};
+    std::array<Set<words>, most_vertices(words)> row{};
 };
 
 inline void read_counts(Input text, Edges &edges) {
     for (Reader in(text); !in.done();) {
         uint32_t count = in.decimal();
         in.byte('\n');
-        if (count == 0 || edges.n + count > most_vertices || edges.count.size() == most_links) fail("a count is out of range");
+        if (count == 0 || edges.n + count > most_vertices(words) || edges.count.size() == most_links(words)) fail("a count is out of range");
         edges.layer.insert(edges.layer.end(), count, int(edges.count.size()));
         edges.first.push_back(edges.n);
         edges.count.push_back(int(count));

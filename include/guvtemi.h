@@ -1,8 +1,9 @@
 /* Guvtemi's two calls for a console's C or C++ program. Link with target/staticlib/libconsole.a
    (written by `rt staticlib console`; x86-64).
 
-   A sheet is bytes as in docs/FORMAT.md, of form 1 or 2. Cells are bytes too: four a cell, little-endian, the kHz of one
-   link each, in link order.
+   A sheet is bytes as in docs/FORMAT.md: guvtemi_plan plans forms 1 and 2, guvtemi_check takes form 3 too. Sheets of
+   form 3, with up to 128 links, are planned by guvtemi_plan_job of guvtemi_desk.h. Cells are bytes too: four a cell,
+   little-endian, the kHz of one link each, in link order.
 
    The caller keeps three things:
    - a pointer is null only where its length is 0;
@@ -11,7 +12,7 @@
    Everything else is the callee's: every byte sequence and every number gets an answer.
 
    The calls keep nothing between them, so several threads may call at once, each with cells of its own. A call of
-   guvtemi_plan takes up to 240 KiB of stack (docs/ASSURANCE.md); the sheets in examples/ take under 128. */
+   guvtemi_plan takes up to 112 KiB of stack (docs/ASSURANCE.md). */
 
 #ifndef GUVTEMI_H
 #define GUVTEMI_H
@@ -32,14 +33,17 @@ enum {
     GUVTEMI_STOPPED = 102  /* plan: the node limit was reached first */
 };
 
-/* Limits of a sheet and of the node limit. */
+/* Limits of a sheet that guvtemi_plan plans, of one that guvtemi_check takes, and of the node limit. */
 enum {
-    GUVTEMI_MOST_LINKS = 64,
-    GUVTEMI_MOST_SHEET_BYTES = 59560,  /* of form 2; of form 1 59304 */
+    GUVTEMI_MOST_LINKS = 64,                 /* of forms 1 and 2 */
+    GUVTEMI_MOST_SHEET_BYTES = 59560,        /* of form 2; of form 1 59304 */
+    GUVTEMI_MOST_CHECK_LINKS = 128,          /* of form 3 */
+    GUVTEMI_MOST_CHECK_SHEET_BYTES = 62120,  /* of form 3 */
     GUVTEMI_MOST_NODES = 1000000000
 };
 
-/* Plans a sheet.
+/* Plans a sheet of form 1 or 2. The answer to one of form 3 is refusal 3, whatever it holds and whatever the other
+   arguments are, unless it is refused with 1 or 2.
    filter   0 to 7: 1 pre-filter, 2 colour sweep, 4 unit and failed vertices, added up; 7 is a good choice
    choice   the working partition: 0 the links, 1 greedy classes, 2 the caller's classes
    limit    the most nodes to enter, 1 to 1,000,000,000
@@ -50,8 +54,8 @@ uint64_t guvtemi_plan(const uint8_t *sheet, size_t sheet_len, uint32_t filter, u
                       const uint8_t *classes, size_t classes_len, uint8_t *cells, size_t cells_len);
 
 /* Checks cells against a sheet: GUVTEMI_YES exactly if each link's cell is in its list, all rules hold, and links
-   without a rule differ in frequency; GUVTEMI_NO if not, or the refusal's number. A sheet of form 2 is judged by its
-   links' widths. Writes nothing. */
+   without a rule differ in frequency; GUVTEMI_NO if not, or the refusal's number. A sheet of form 2 or 3 is judged by
+   its links' widths. Writes nothing. */
 uint64_t guvtemi_check(const uint8_t *sheet, size_t sheet_len, const uint8_t *cells, size_t cells_len);
 
 /* The answer's number and the nodes in what guvtemi_plan returned. */

@@ -4,9 +4,10 @@
    `rt staticlib desk`; x86-64). The numbers of an answer and guvtemi_number, guvtemi_nodes and guvtemi_khz are those of
    guvtemi.h, which this header includes; the two functions declared there are in libconsole.a.
 
-   A sheet is bytes as in docs/FORMAT.md, of form 1 or 2. A channel list is bytes too, a channel on air each, 21 to 48,
-   strictly rising; channel c covers 470,000 + 8,000(c - 21) kHz up to, but without, 8,000 more: docs/CHART.md has all. No
-   bytes are no list. The two texts are those of docs/DIMACS.md; a text is just the bytes lent, with no zero at its end.
+   A sheet is bytes as in docs/FORMAT.md, of form 1, 2 or 3; every call that reads one takes all three. A channel list is
+   bytes too, a channel on air each, 21 to 48, strictly rising; channel c covers 470,000 + 8,000(c - 21) kHz up to, but
+   without, 8,000 more: docs/CHART.md has all. No bytes are no list. The two texts are those of docs/DIMACS.md; a text is
+   just the bytes lent, with no zero at its end.
 
    The caller keeps three things:
    - a pointer is null only where its length is 0;
@@ -15,7 +16,8 @@
    Everything else is the callee's: every byte sequence and every number gets an answer.
 
    The calls keep nothing between them, so several threads may call at once, each with outputs of its own. A call of
-   guvtemi_plan_job takes up to 240 KiB of stack, one of guvtemi_count_job up to 280 (docs/ASSURANCE.md). */
+   guvtemi_plan_job takes up to 304 KiB of stack, one of guvtemi_count_job up to 320, of guvtemi_export up to 160 and of
+   guvtemi_spares up to 144, for every form; the others take up to 72 (docs/ASSURANCE.md). */
 
 #ifndef GUVTEMI_DESK_H
 #define GUVTEMI_DESK_H
@@ -48,18 +50,26 @@ enum {
     GUVTEMI_MOST_CHANNELS = 28
 };
 
-/* Outputs of these sizes are long enough for every call. */
+/* Limits of a sheet that these calls read: those of form 3. Forms 1 and 2 have up to 64 links and 512 frequencies. */
 enum {
-    GUVTEMI_MOST_GRAPH_BYTES = 1235834,
-    GUVTEMI_MOST_COUNT_BYTES = 177,
-    GUVTEMI_ENOUGH_SHEET_BYTES = 65536,
-    GUVTEMI_MOST_TABLE_BYTES = 16384,       /* of guvtemi_spares: 64 x 64 places of four bytes */
-    GUVTEMI_ENOUGH_PLAN_COUNT_BYTES = 4096  /* of guvtemi_count_job: 512 counts of eight bytes */
+    GUVTEMI_MOST_JOB_LINKS = 128,
+    GUVTEMI_MOST_JOB_FREQUENCIES = 1024,  /* also the bytes of the longest class list */
+    GUVTEMI_MOST_JOB_SHEET_BYTES = 62120
 };
 
-/* Plans a sheet with channels on air: guvtemi_plan of guvtemi.h with a list beside the sheet. A frequency that a channel
-   covers is struck: it is in no plan, and a link with no other frequency leaves no plan, in 0 nodes.
-   channels  the channels on air; with no bytes the answer, nodes and cells are those of guvtemi_plan
+/* Outputs of these sizes are long enough for every call. */
+enum {
+    GUVTEMI_MOST_GRAPH_BYTES = 5117642,     /* of guvtemi_export; of a sheet of form 1 or 2 1235834 */
+    GUVTEMI_MOST_COUNT_BYTES = 355,         /* of guvtemi_export; of a sheet of form 1 or 2 177 */
+    GUVTEMI_ENOUGH_SHEET_BYTES = 65536,     /* of guvtemi_import and guvtemi_heaviest */
+    GUVTEMI_MOST_TABLE_BYTES = 65536,       /* of guvtemi_spares: 128 x 128 places of four bytes */
+    GUVTEMI_ENOUGH_PLAN_COUNT_BYTES = 8192  /* of guvtemi_count_job: 1,024 counts of eight bytes */
+};
+
+/* Plans a sheet with channels on air: guvtemi_plan of guvtemi.h with a list beside the sheet, and with form 3 too. A
+   frequency that a channel covers is struck: it is in no plan, and a link with no other frequency leaves no plan, in 0
+   nodes. A sheet that is accepted in form 2 has the same answer, nodes and cells with form 3 in its header.
+   channels  the channels on air; with no bytes the answer, nodes and cells of forms 1 and 2 are those of guvtemi_plan
    filter    0 to 7: 1 pre-filter, 2 colour sweep, 4 unit and failed vertices, added up; 7 is a good choice
    choice    the working partition: 0 the links, 1 greedy classes, 2 the caller's classes
    limit     the most nodes to enter, 1 to 1,000,000,000

@@ -25,7 +25,7 @@ def air_sheet(rng, most_links=6, most_frequencies=5):
     base = rng.choice(LOWS + [694_000, 470_000, 470_000]) - step * rng.choice((0, 3, 5, 9)) - rng.choice((0, 0, 1))
     links = [[base + step * khz for khz in listed] for listed in sheet.links]
     rules = [rule if rule.kind == LISTED else Rule(rule.a, rule.b, rule.kind, step * rule.value) for rule in sheet.rules]
-    return Sheet(links, rules, sheet.widths)
+    return Sheet(links, rules, sheet.widths, sheet.festival)
 
 
 def channels_near(sheet):
@@ -55,7 +55,7 @@ def any_channels(rng, sheet):
     return rng.choice((damaged, damaged, listed[::-1], listed * 2, rng.choice(list(BAD_LISTS.values())[:16])))
 
 
-def plan_call(rng, data, channels, filters=7, choice=0, limit=1_000_000, classes=b"", cells_len=256):
+def plan_call(rng, data, channels, filters=7, choice=0, limit=1_000_000, classes=b"", cells_len=512):
     return DeskCall(PLAN, [data, channels, classes], [filled(rng, cells_len)], (filters, choice, limit))
 
 
@@ -167,7 +167,8 @@ def telling_job_calls(rng):
         lowest = min(khz for listed in sheet.links for khz in listed)
         highest = max(khz for listed in sheet.links for khz in listed)
         for split in (lowest, (lowest + highest + 1) // 2, highest):
-            moved = Sheet([[khz + 478_000 - split for khz in listed] for listed in sheet.links], sheet.rules, sheet.widths)
+            moved = Sheet([[khz + 478_000 - split for khz in listed] for listed in sheet.links], sheet.rules, sheet.widths,
+                          sheet.festival)
             data = encode(moved)
             for channels in (b"\x15", b"\x16"):
                 for filters in range(8):

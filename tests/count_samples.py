@@ -9,12 +9,12 @@ import samples
 from desk_samples import COUNT, PLAN, DeskCall, all_different, filled
 from jobsheet.binary import SPACING, Rule, Sheet, encode
 
-ENOUGH_COUNT_BYTES = 4_096
+ENOUGH_COUNT_BYTES = 8_192
 AIR = Sheet([[470_000, 500_000], [500_400, 600_000]], [Rule(0, 1, SPACING, 400)])  # channels 21, 24; 24, 37
 FEW_NODES = 3_000  # of a job with many assignments: the reading is slow
 
 
-def count_call(rng, data, channels=b"", filters=7, choice=0, limit=1_000_000, classes=b"", cells_len=256, counts_len=ENOUGH_COUNT_BYTES):
+def count_call(rng, data, channels=b"", filters=7, choice=0, limit=1_000_000, classes=b"", cells_len=512, counts_len=ENOUGH_COUNT_BYTES):
     return DeskCall(COUNT, [data, channels, classes], [filled(rng, cells_len), filled(rng, counts_len)], (filters, choice, limit))
 
 
@@ -25,7 +25,7 @@ def counting(rng, call, counts_len):
 
 def frequencies(data):
     """What a sheet's header says of its frequencies, in range or not; 4 where there is no header."""
-    return min(struct.unpack_from("<I", data, 8)[0], 600) if len(data) >= 12 else 4
+    return min(struct.unpack_from("<I", data, 8)[0], 1_100) if len(data) >= 12 else 4
 
 
 # ---- Worked out by hand
@@ -100,7 +100,7 @@ def telling_jobs():
         yield sheet, b""
         listed = [khz for link in sheet.links for khz in link]
         split = (min(listed) + max(listed) + 1) // 2
-        moved = Sheet([[khz + 478_000 - split for khz in link] for link in sheet.links], sheet.rules, sheet.widths)
+        moved = Sheet([[khz + 478_000 - split for khz in link] for link in sheet.links], sheet.rules, sheet.widths, sheet.festival)
         yield from ((moved, channels) for channels in (b"\x15", b"\x16"))
 
 
@@ -117,7 +117,8 @@ def length_calls(rng):
     """Room of every length around n counts, for runs that end with and without a plan, or are stopped: (name, number, call)."""
     jobs = [("M1", samples.M1, b"", 3), ("Example 1", samples.EXAMPLE_1, b"", 5), ("Example 3", samples.EXAMPLE_3, b"", None),
             ("a frequency struck", AIR, b"\x15", 4),
-            ("512 frequencies", Sheet([list(range(1, 513))], []), b"", 513), ("64 links", Sheet(all_different([1] * 64), []), b"", 65)]
+            ("512 frequencies", Sheet([list(range(1, 513))], []), b"", 513), ("64 links", Sheet(all_different([1] * 64), []), b"", 65),
+            ("1,024 frequencies", Sheet([list(range(1, 1025))], [], [1]), b"", 1025)]
     for name, sheet, channels, size in jobs:
         data, enough = encode(sheet), 8 * sheet.frequencies()
         for room in sorted({0, 1, 7, 8, *range(max(enough - 9, 0), enough + 10), 2 * enough, ENOUGH_COUNT_BYTES, ENOUGH_COUNT_BYTES + 5}):

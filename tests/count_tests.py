@@ -179,7 +179,7 @@ int main(void)
 """
 
 
-@test("the header's guvtemi_plans reads every count, in C and C++; its room is that of 512 frequencies")
+@test("the header's guvtemi_plans reads every count, in C and C++; its room is that of 1,024 frequencies")
 def _(args):
     rng = random.Random(args.seed + 60)
     BUILD.mkdir(parents=True, exist_ok=True)
@@ -188,12 +188,12 @@ def _(args):
         program = BUILD / f"plans-{kind}"
         done = run([compiler, *WARNINGS, "-Wno-long-long", "-O2", "-I", ROOT / "include", "-x", kind, "-o", program, "-"], input=READER.encode())
         need(done.returncode == 0, f"{compiler}: {done.stderr.decode()[:400]}")
-        for n in (1, 4, 512):
+        for n in (1, 4, 512, 1_024):
             numbers = [rng.choice((rng.choice(edges), rng.randrange(2**64))) for _ in range(n)]
             printed = run([program], input=struct.pack(f"<{n}Q", *numbers)).stdout.decode().split()
             need(printed == list(map(str, numbers)), f"{compiler}, {n} counts: {printed[:9]}, wanted {numbers[:9]}")
     need(header_number("guvtemi_desk.h", "GUVTEMI_ENOUGH_PLAN_COUNT_BYTES") == ENOUGH_COUNT_BYTES, "GUVTEMI_ENOUGH_PLAN_COUNT_BYTES")
     need(header_number("guvtemi_desk.h", "GUVTEMI_FEW_COUNTS") == 19, "GUVTEMI_FEW_COUNTS")
-    data = encode(Sheet([list(range(1, 513))], []))
+    data = encode(Sheet([list(range(1, 1_025))], [], [200]))
     calls = [count_call(rng, data, counts_len=ENOUGH_COUNT_BYTES - less) for less in range(2)]
-    need([returned >> 32 for returned, *_ in native.desk_answers(driver(), calls)] == [100, 19], "512 frequencies do not need just so many bytes")
+    need([returned >> 32 for returned, *_ in native.desk_answers(driver(), calls)] == [100, 19], "1,024 frequencies do not need just so many bytes")

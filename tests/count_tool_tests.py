@@ -200,7 +200,7 @@ def shades_of(drawn):
 @test("pictures with counts: each frequency in its shade with its number, dead ones hollow, struck ones crossed out, a legend")
 def _(args):
     rng, seen = random.Random(args.seed + 64), Counter()
-    for _ in range(max(args.cases // 60, 30)):
+    for _ in range(max(args.cases // 30, 80)):
         sheet = air_samples.air_sheet(rng, rng.choice((6, 40)), rng.choice((1, 2, 5)))
         if reading.assignments(reading.Sheet(encode(sheet))) > 3_000:
             continue

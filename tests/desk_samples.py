@@ -10,9 +10,10 @@ import samples
 from jobsheet.binary import LISTED, Rule, Sheet, encode
 
 EXPORT, IMPORT, PLAN, CHECK, SPARES, HEAVIEST, COUNT = range(7)
-MOST_GRAPH_BYTES, MOST_COUNT_BYTES, ENOUGH_SHEET_BYTES = 1_235_834, 177, 65_536
+MOST_GRAPH_BYTES, MOST_COUNT_BYTES, ENOUGH_SHEET_BYTES = 5_117_642, 355, 65_536
+MOST_NARROW_GRAPH_BYTES, MOST_NARROW_COUNT_BYTES = 1_235_834, 177  # of forms 1 and 2
 EIGHTS = [8] * 64
-LONGEST_GRAPH, LONGEST_COUNTS = [9] + [8] * 12 + [7] + [8] * 50, [10] * 49 + [1] * 14 + [8]  # counts of the longest texts
+LONGEST_GRAPH, LONGEST_COUNTS = [9] + [8] * 12 + [7] + [8] * 50, [10] * 49 + [1] * 14 + [8]  # counts of the longest texts of forms 1 and 2
 ODD_NUMBERS = ("0", "00", "01", "", "-1", "+1", "1.0", "1e1", "0x1", " 1", "1 ", "513", "65", "9" * 18, "9" * 19, "9" * 5000)
 
 
@@ -287,12 +288,12 @@ def all_different(sizes):
 
 
 def limit_exports(rng):
-    """Exports of sheets at their limits and of the largest texts, with room enough, just enough and one byte less."""
+    """Exports of sheets of forms 1 and 2 at their limits and of their largest texts, with room enough, just enough and one byte less."""
     sheets = [data for _, data in samples.limit_sheets()]
     sheets += [encode(Sheet(all_different(sizes), [])) for sizes in (EIGHTS, LONGEST_GRAPH, LONGEST_COUNTS)]
     sheets += [encode(Sheet([[5, 6], [5]], [Rule(0, 1, LISTED, 0, [(1, 0)])]))]
     for data in sheets:
-        yield export_call(rng, data, MOST_GRAPH_BYTES, MOST_COUNT_BYTES)
+        yield export_call(rng, data, MOST_NARROW_GRAPH_BYTES if len(data) > 1_000 else 20_000, MOST_NARROW_COUNT_BYTES)
         yield export_call(rng, data, 0, 0)
         if reading.refusal(data) == 0:
             graph, counts = map(len, reading.texts_of(reading.Sheet(data)))

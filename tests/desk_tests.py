@@ -11,7 +11,8 @@ import native
 import reading
 import samples
 import spare_samples
-from desk_samples import CHECK, COUNT, EXPORT, HEAVIEST, IMPORT, MOST_COUNT_BYTES, MOST_GRAPH_BYTES, PLAN, SPARES, DeskCall
+from desk_samples import (CHECK, COUNT, EXPORT, HEAVIEST, IMPORT, MOST_COUNT_BYTES, MOST_GRAPH_BYTES, MOST_NARROW_COUNT_BYTES, MOST_NARROW_GRAPH_BYTES,
+                          PLAN, SPARES, DeskCall)
 from harness import EXAMPLES, need, test
 from jobsheet.binary import LISTED, SPACING, Rule, Sheet, encode
 from native import DESK_ARCHIVE, SANITIZE
@@ -102,8 +103,8 @@ def _(args):
     calls = list(desk_samples.limit_exports(random.Random(args.seed + 13)))
     found = native.desk_answers(driver(), calls)
     lengths = [(returned % 2**32, (returned >> 32) % 2**16) for returned, _, _ in found]
-    need(max(graph for graph, _ in lengths) == MOST_GRAPH_BYTES and max(counts for _, counts in lengths) == MOST_COUNT_BYTES,
-         "no call wrote a text of the largest size")
+    need((max(graph for graph, _ in lengths), max(counts for _, counts in lengths)) == (MOST_NARROW_GRAPH_BYTES, MOST_NARROW_COUNT_BYTES),
+         "no call wrote a text of the largest size of forms 1 and 2")
     return told(compare(calls, found))
 
 
@@ -118,11 +119,13 @@ def _(_):
         need(lines == [f"p edge {sheet.frequencies()} {len(edges)}", *edges], f"{sheet}: {lines}")
 
 
-@test("export: widths count in form 2, cause 16 is in its place, and what comes back is of form 1")
+@test("export: widths count in forms 2 and 3, cause 16 is in its place, and what comes back is of form 1")
 def _(_):
     lists, rules = [[500_000, 500_400], [500_000, 500_300]], [Rule(0, 1, SPACING, 300)]
-    for widths, edges in ((None, ["e 1 4", "e 2 3"]), ([30, 50], ["e 2 3"]), ([100, 100], ["e 2 3"]), ([100, 101], [])):
-        data = encode(Sheet(lists, rules, widths))
+    cases = [(None, False, ["e 1 4", "e 2 3"])]
+    cases += [(*case[:1], festival, case[1]) for case in (([30, 50], ["e 2 3"]), ([100, 100], ["e 2 3"]), ([100, 101], [])) for festival in (False, True)]
+    for widths, festival, edges in cases:
+        data = encode(Sheet(lists, rules, widths, festival))
         (_, _, (graph, _)), = native.desk_answers(driver(), [DeskCall(EXPORT, [data], [bytes(100), bytes(10)])])
         lines = graph.rstrip(b"\0").decode().splitlines()
         need(lines == [f"p edge 4 {len(edges)}", *edges], f"widths {widths}: {lines}")
@@ -139,15 +142,16 @@ def _(_):
 # ---- Export, then import
 
 def trips(sheets):
-    """For each sheet the one that importing its export gives, or None where import says 15."""
-    room = [MOST_GRAPH_BYTES if reading.Sheet(data).n > 60 else 20_000 for data in sheets]
+    """For each sheet the one that importing its export gives, or None where import says 15, or 13 to what form 1 does not hold."""
+    room = [MOST_GRAPH_BYTES if reading.Sheet(data).n > 512 else MOST_NARROW_GRAPH_BYTES if reading.Sheet(data).n > 60 else 20_000 for data in sheets]
     exports = [DeskCall(EXPORT, [data], [bytes(most), bytes(MOST_COUNT_BYTES)]) for data, most in zip(sheets, room)]
     imports = []
     for returned, _, (graph, counts) in native.desk_answers(driver(), exports):
         need(returned >> 48 == 0, f"export refuses an accepted sheet with {returned >> 48}")
         imports.append(DeskCall(IMPORT, [graph[:returned % 2**32], counts[:(returned >> 32) % 2**16]], [bytes(desk_samples.ENOUGH_SHEET_BYTES)]))
-    for returned, _, (data,) in native.desk_answers(driver(), imports):
-        need(returned >> 32 in (0, 15), f"import refuses an exported pair with {returned >> 32}")
+    for before, (returned, _, (data,)) in zip(sheets, native.desk_answers(driver(), imports)):
+        held = reading.Sheet(before).k <= 64 and reading.Sheet(before).n <= 512
+        need(returned >> 32 in ((0, 15) if held else (13,)), f"import refuses an exported pair with {returned >> 32}")
         yield data[:returned % 2**32] if returned >> 32 == 0 else None
 
 
@@ -164,15 +168,14 @@ def _(args):
         limit = rng.choice((1, 3, 10, 1000)) if reading.Sheet(data).n > 60 or rng.random() < 0.3 else 1_000_000
         for filters in range(8):
             for choice in range(2):
-                cells = bytes(4 * reading.Sheet(data).k)
-                firsts.append(samples.Call(data, filters, choice, limit, b"", cells))
-                seconds.append(samples.Call(back, filters, choice, limit, b"", cells))
-    console = native.build("tests/driver.c", "driver", ["-O2"])
+                firsts.append(air_samples.plan_call(rng, data, b"", filters, choice, limit))
+                seconds.append(air_samples.plan_call(rng, back, b"", filters, choice, limit))
     seen = Counter()
-    for call, (first, _, _), (second, _, _) in zip(firsts, native.answers(console, firsts), native.answers(console, seconds)):
-        need(first == second, f"{first >> 32} in {first % 2**32} nodes, then {second >> 32} in {second % 2**32}: {call}")
-        seen[first >> 32] += 1
-    need(all(seen[number] for number in (reading.FOUND, reading.NONE, reading.STOPPED)), f"not every verdict arose: {dict(seen)}")
+    for call, (first, _, _), (second, _, _) in zip(firsts, native.desk_answers(driver(), firsts), native.desk_answers(driver(), seconds)):
+        need(first == second, f"{first >> 32} in {first % 2**32} nodes, then {second >> 32} in {second % 2**32}: {str(call)[:400]}")
+        seen[first >> 32, call.read[0][0]] += 1
+    verdicts = [(number, form) for number in (reading.FOUND, reading.NONE, reading.STOPPED) for form in (1, 2, 3)]
+    need(all(seen[one] for one in verdicts), f"not every verdict arose in every form: {dict(seen)}")
     return f"{len(pairs)} of {len(sheets)} sheets imported, {len(firsts):,} runs twice"
 
 
@@ -231,16 +234,22 @@ def _(args):
     return told(compare(calls, native.desk_answers(driver(), calls)))
 
 
-@test("an empty list is no list: the desk's two calls answer as the console's")
+@test("an empty list is no list: the desk's two calls answer as the console's, but for planning form 3, which only the desk does")
 def _(args):
     rng = random.Random(args.seed + 23)
     console = native.build("tests/driver.c", "driver", ["-O2"])
     calls = [samples.random_call(rng, air_samples.air_sheet(rng) if rng.random() < 0.5 else None) for _ in range(max(args.cases // 2, 200))]
     calls += [*samples.limit_calls(), *list(samples.telling_calls())[::5]]
     jobs = [air_samples.with_channels(rng, call, b"") for call in calls]
+    festivals = 0
     for call, (first, _, cells), (second, changed, after) in zip(calls, native.answers(console, calls), native.desk_answers(driver(), jobs)):
+        if call.filters is not None and reading.console_refuses(call.sheet):
+            need(first == 3 << 32 and not any(cells) and not changed, f"the console returns {first:#x} to form 3: {str(call)[:400]}")
+            festivals += second >> 32 >= 100
+            continue
         need(first == second and not changed and after in ([], [cells]), f"the console returns {first:#x}, the desk {second:#x}: {str(call)[:400]}")
-    return f"{len(calls):,} calls twice"
+    need(festivals, "no sheet of form 3 was planned by the desk")
+    return f"{len(calls):,} calls twice, {festivals} of form 3 planned by the desk alone"
 
 
 # ---- Under memory checkers

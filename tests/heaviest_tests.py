@@ -94,7 +94,7 @@ def even_sheet(rng):
                 rules.append(Rule(a, b, LISTED, 0, pairs))
             elif kind in (SPACING, EXACT):
                 rules.append(Rule(a, b, kind, rng.randint(1, 5)))
-    return k, m, Sheet(links, rules, samples.random_widths(rng, k, (1, 3, 9)))
+    return k, m, Sheet(links, rules, *samples.random_form(rng, k, (1, 3, 9)))
 
 
 @test("no sheet of k links with m frequencies each has a larger tree, under any filter number")

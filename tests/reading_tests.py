@@ -100,5 +100,5 @@ def _(args):
                 allowed = samples.allows(sheet, rule, found.khz[u], found.khz[v])
                 need((spare >= 0) == allowed and spare_samples.LEAST <= spare <= spare_samples.MOST, f"{spare} half kHz, {allowed}: {sheet}, {u}, {v}")
                 seen[rule.kind if rule else 0, sheet.form(), allowed] += 1
-    need(len(seen) == 16, f"{dict(seen)}")  # no rule and three kinds, two forms, both answers
+    need(len(seen) == 24, f"{dict(seen)}")  # no rule and three kinds, three forms, both answers
     return f"{sum(seen.values()):,} pairs"

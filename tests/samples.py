@@ -16,7 +16,7 @@ EXAMPLE_1 = Sheet([[1, 3, 5], [1, 2, 3], [5, 6], [1, 2, 3]],
                    Rule(2, 3, LISTED, 0, [(0, 0), (1, 1), (1, 2)])])
 EXAMPLE_3 = Sheet([[1, 2], [1, 2, 3], [1]],
                   [Rule(0, 1, LISTED, 0, [(0, 0), (1, 0), (1, 1), (1, 2)]), Rule(0, 2, LISTED, 0, [(0, 0)]), Rule(1, 2, LISTED, 0, [(1, 0)])])
-EDGES = (0, 1, 2, 3, 4, 39, 40, 63, 64, 65, 255, 256, 511, 512, 513, 2016, 2017, 8192, 8193, 32767, 32768, 65535)
+EDGES = (0, 1, 2, 3, 4, 39, 40, 63, 64, 65, 127, 128, 129, 255, 256, 511, 512, 513, 1023, 1024, 1025, 2016, 2017, 8192, 8193, 32767, 32768, 65535)
 WIDE_EDGES = EDGES + (20_000, 20_001, 65536, 9_999_999, 10_000_000, 2**31 - 1, 2**31, 2**32 - 1)
 
 
@@ -34,13 +34,15 @@ def random_sheet(rng, most_links=6, most_frequencies=5):
                 pairs = _random_pairs(rng, links[a], links[b])
                 if pairs:
                     rules.append(Rule(a, b, LISTED, 0, pairs))
-    return Sheet(links, rules, random_widths(rng, len(links), (1, 2, 3, 5, 5, 9, 20_000)))
+    return Sheet(links, rules, *random_form(rng, len(links), (1, 2, 3, 5, 5, 9, 20_000)))
 
 
-def random_widths(rng, count, tops):
-    """A width for each link, up to one of these tops, or None, so that the sheet is of form 1."""
+def random_form(rng, count, tops):
+    """A width for each link, up to one of these tops, or None, so that the sheet is of form 1; and whether one with widths is of form 3."""
     top = rng.choice(tops)
-    return [rng.choice((rng.randint(1, top), top)) for _ in range(count)] if rng.random() < 0.5 else None
+    if rng.random() < 0.4:
+        return None, False
+    return [rng.choice((rng.randint(1, top), top)) for _ in range(count)], rng.random() < 0.4
 
 
 def _random_pairs(rng, first, second):
@@ -71,11 +73,11 @@ def wide_sheet(rng):
                 pairs_left -= len(pairs)
                 if pairs:
                     rules.append(Rule(a, b, LISTED, 0, pairs))
-    return Sheet(links, rules, random_widths(rng, len(links), (1, 25, 200, 20_000)))
+    return Sheet(links, rules, *random_form(rng, len(links), (1, 25, 200, 20_000)))
 
 
 def limit_sheets():
-    """Sheets at each limit, and one past it: (name, bytes)."""
+    """Sheets at each limit of forms 1 and 2, and one past it: (name, bytes). Those of form 3 are in festival_samples.py."""
     every = [(a, b) for a in range(64) for b in range(a + 1, 64)]
     eights = [[500_000 + 400 * (8 * a + i) for i in range(8)] for a in range(64)]
     half = [list(range(1, 257)), list(range(1000, 1256))]
@@ -99,6 +101,8 @@ def limit_sheets():
         ("64 links of 8 of the same 40 frequencies, no rule", encode(Sheet(shared, []))),
         ("two links of 256 frequencies, half of them the same, no rule", encode(Sheet([list(range(1, 257)), list(range(129, 385))], []))),
         ("65 links", encode(Sheet([[1]] * 65, []))),
+        ("65 links, form 2", changed(encode(Sheet([[1]] * 65, [], [1] * 65)), ("I", 0, 2))),
+        ("513 frequencies, form 2", changed(encode(Sheet([list(range(1, 514))], [], [1])), ("I", 0, 2))),
         ("2,017 rules", encode(Sheet(eights, [Rule(a, b, SPACING, 1) for a, b in every] + [Rule(0, 1, SPACING, 1)]))),
         ("the whole range", encode(Sheet([[1, 9_999_999], [1, 9_999_999]], [Rule(0, 1, SPACING, 9_999_998)]))),
         ("one past the range", encode(Sheet([[1, 9_999_999], [1, 9_999_999]], [Rule(0, 1, SPACING, 9_999_999)]))),
@@ -113,29 +117,47 @@ NARROW = Sheet([[500_000, 500_400], [500_000, 500_300]], [Rule(0, 1, LISTED, 0, 
 
 
 def form_sheets():
-    """Small sheets around the two forms and cause 16: (name, cause, 0 where there is none, bytes)."""
-    one, two = encode(Sheet(NARROW.links, NARROW.rules)), encode(NARROW)
+    """Small sheets around the three forms and cause 16: (name, cause, 0 where there is none, bytes)."""
+    one = encode(Sheet(NARROW.links, NARROW.rules))
+    for form, cause in ((0, 1), (2, 4), (3, 4), (4, 1), (2**16 + 1, 1), (2**31 + 1, 1)):
+        yield f"form 1 with form {form} in the header", cause, changed(one, ("I", 0, form))
+    for form in (2, 3):
+        for name, cause, data in _wide_row_sheets(form, encode(Sheet(NARROW.links, NARROW.rules, NARROW.widths, form == 3)), one):
+            yield f"form {form}: {name}", cause, data
+
+
+def _wide_row_sheets(form, good, one):
+    """Small sheets of a form with widths, made from a good one, and from the same job in form 1."""
     low, high = ("I", 44, 0), ("I", 52, 20_001)
     for width, cause in ((0, 16), (1, 0), (20_000, 0), (20_001, 16), (20_300, 16), (2**16, 16), (2**16 + 1, 16), (2**31, 16), (2**32 - 1, 16)):
         for link in range(2):
-            yield f"link {link} {width} kHz wide", cause, changed(two, ("I", 44 + 8 * link, width))
-    yield "both widths wrong", 16, changed(two, low, high)
+            yield f"link {link} {width} kHz wide", cause, changed(good, ("I", 44 + 8 * link, width))
+    yield "both widths wrong", 16, changed(good, low, high)
     for name, fault in (("a first frequency", ("H", 48, 1)), ("a count of 0", ("H", 50, 0)), ("the sum", ("H", 50, 3)), ("an earlier count", ("H", 42, 1))):
-        yield f"5 before 16: {name}", 5, changed(two, low, fault)
+        yield f"5 before 16: {name}", 5, changed(good, low, fault)
     for cause, fault in ((6, ("I", 56, 0)), (6, ("I", 68, 1)), (7, ("H", 76, 4)), (7, ("I", 80, 1)), (8, ("H", 84, 2))):
-        yield f"{cause} alone", cause, changed(two, fault)
-        yield f"16 before {cause}", 16, changed(two, high, fault)
-    yield "1 before 16", 1, changed(two, low, ("I", 0, 3))
-    yield "4 before 16", 4, changed(two, low, ("I", 24, 48))
-    for form, cause in ((0, 1), (2, 4), (3, 1), (2**16 + 1, 1), (2**31 + 1, 1)):
-        yield f"form 1 with form {form} in the header", cause, changed(one, ("I", 0, form))
-    for form, cause in ((0, 1), (1, 4), (3, 1), (2**16 + 2, 1), (2**31 + 2, 1)):
-        yield f"form 2 with form {form} in the header", cause, changed(two, ("I", 0, form))
-    yield "form 2 with rows of 4 bytes and the offsets of 8", 4, two[:40] + one[40:]
-    yield "form 2 with rows of 4 bytes, the offsets and the length of 8", 5, two[:40] + one[40:] + bytes(8)
-    yield "form 2, the last byte missing", 4, two[:-1]
-    yield "form 2, one link, only its row", 4, struct.pack("<10I2HI", 2, 1, 1, 0, 0, 40, 48, 52, 52, 52, 0, 1, 200)
-    yield "form 2, one link, one frequency", 0, struct.pack("<10I2H2I", 2, 1, 1, 0, 0, 40, 48, 52, 52, 52, 0, 1, 20_000, 9_999_999)
+        yield f"{cause} alone", cause, changed(good, fault)
+        yield f"16 before {cause}", 16, changed(good, high, fault)
+    yield "1 before 16", 1, changed(good, low, ("I", 0, 4))
+    yield "4 before 16", 4, changed(good, low, ("I", 24, 48))
+    for other, cause in ((0, 1), (1, 4), (5 - form, 0), (4, 1), (2**16 + form, 1), (2**31 + form, 1), (form << 8, 1)):
+        yield f"with form {other} in the header", cause, changed(good, ("I", 0, other))
+    for links, cause in ((0, 2), (64, 4), (65, 4 if form == 3 else 2), (128, 4 if form == 3 else 2), (129, 2), (2**16 + 2, 2), (2**32 - 1, 2)):
+        yield f"{links} links in the header", cause, changed(good, ("I", 4, links))
+    for frequencies, cause in ((0, 3), (512, 4), (513, 4 if form == 3 else 3), (1024, 4 if form == 3 else 3), (1025, 3), (2**16 + 4, 3)):
+        yield f"{frequencies} frequencies in the header", cause, changed(good, ("I", 8, frequencies))
+    for at, name, most in ((12, "rules", 2016), (16, "pairs", 8192)):
+        for number, cause in ((most, 4), (most + 1, 3)):
+            yield f"{number} {name} in the header", cause, changed(good, ("I", at, number))
+    yield "2 before 3", 2, changed(good, ("I", 4, 129), ("I", 8, 0))
+    yield "1 before 2", 1, changed(good, ("I", 0, 4), ("I", 4, 0))
+    yield "39 bytes", 1, good[:39]
+    yield "only a header", 4, good[:40]
+    yield "rows of 4 bytes and the offsets of 8", 4, good[:40] + one[40:]
+    yield "rows of 4 bytes, the offsets and the length of 8", 5, good[:40] + one[40:] + bytes(8)
+    yield "the last byte missing", 4, good[:-1]
+    yield "one link, only its row", 4, struct.pack("<10I2HI", form, 1, 1, 0, 0, 40, 48, 52, 52, 52, 0, 1, 200)
+    yield "one link, one frequency", 0, struct.pack("<10I2H2I", form, 1, 1, 0, 0, 40, 48, 52, 52, 52, 0, 1, 20_000, 9_999_999)
 
 
 def changed(data, *changes):
@@ -184,12 +206,12 @@ def damaged(rng, data):
     for _ in range(rng.choice((1, 1, 1, 2, 4))):
         if len(data) < 44:
             break
-        rng.choice((_byte, _field, _field, _row, _row, _row, _width if data[0] == 2 else _row, _cut))(rng, data)
+        rng.choice((_byte, _field, _field, _row, _row, _row, _width if data[0] in (2, 3) else _row, _cut))(rng, data)
     return bytes(data)
 
 
 def _byte(rng, data):
-    data[rng.randrange(len(data))] = rng.choice((0, 1, 2, 255, rng.randrange(256)))
+    data[rng.randrange(len(data))] = rng.choice((0, 1, 2, 3, 255, rng.randrange(256)))
 
 
 def _field(rng, data):
@@ -200,8 +222,8 @@ def _field(rng, data):
 
 def _row(rng, data):
     """A number of a link row, a frequency, a rule row or a pair row, changed or exchanged with the next one."""
-    k, n, q, t = (min(count, limit) for count, limit in zip(struct.unpack_from("<4I", data, 4), (64, 512, 2016, 8192)))
-    links = (40, 8, k, "HHI") if data[0] == 2 else (40, 4, k, "HH")
+    k, n, q, t = (min(count, limit) for count, limit in zip(struct.unpack_from("<4I", data, 4), (128, 1024, 2016, 8192)))
+    links = (40, 8, k, "HHI") if data[0] in (2, 3) else (40, 4, k, "HH")
     end = 40 + links[1] * k
     starts = [links, (end, 4, n, "I"), (end + 4 * n, 12, q, "HHHHI"), (end + 4 * n + 12 * q, 4, t, "HH")]
     start, size, count, layout = rng.choice([section for section in starts if section[2]] or [(40, 4, 1, "HH")])
@@ -219,8 +241,8 @@ def _row(rng, data):
 
 
 def _width(rng, data):
-    """A width of form 2 in or out of range."""
-    at = 44 + 8 * rng.randrange(min(data[4], 64) or 1)
+    """A width of form 2 or 3 in or out of range."""
+    at = 44 + 8 * rng.randrange(min(data[4], 128) or 1)
     if at + 4 <= len(data):
         struct.pack_into("<I", data, at, rng.choice((0, 1, 20_000, 20_001, 20_001, 2**16, 2**32 - 1)))
 
@@ -354,7 +376,8 @@ def telling_sheets():
         # The first sheet with widths: its spacing just met, missed by half a kHz, met by one pair, by two, by none.
         *(Sheet([[500_000, 500_400], [500_000, 500_300]], [Rule(0, 1, SPACING, value)], [30, width])
           for value, width in ((360, 50), (360, 51), (300, 50), (260, 50), (400, 50))),
-        Sheet([[1, 4, 7], [2, 5, 8], [3, 6, 9]], [Rule(0, 1, SPACING, 1), Rule(0, 2, SPACING, 2), Rule(1, 2, EXACT, 1)], [1, 2, 3]),
+        *(Sheet([[1, 4, 7], [2, 5, 8], [3, 6, 9]], [Rule(0, 1, SPACING, 1), Rule(0, 2, SPACING, 2), Rule(1, 2, EXACT, 1)], [1, 2, 3], festival)
+          for festival in (False, True)),
         # The pre-filter empties a greedy class, and no layer.
         Sheet([[1, 2, 4], [2, 5], [2]], listed([(0, 1, [(0, 0), (1, 0), (1, 1)])]) + [Rule(0, 2, SPACING, 1), Rule(1, 2, SPACING, 1)]),
     ]
@@ -369,6 +392,6 @@ def telling_calls():
             for choice in range(3):
                 classes = classes_for(rng, sheet) if choice == 2 else b""
                 cells = bytes([7]) * (4 * len(sheet.links) + 3)
-                size = reading.console_plan(data, filters, choice, 1_000_000_000, classes, len(cells))[0] % 2**32
+                size = reading.plan_job(data, b"", filters, choice, 1_000_000_000, classes, len(cells))[0] % 2**32
                 for limit in sorted({1, max(size - 1, 1), max(size, 1), size + 1, 1_000_000}):
                     yield Call(data, filters, choice, limit, classes, cells)

@@ -122,7 +122,7 @@ def printed_cells(lines):
     for line in lines:
         if re.fullmatch(r" +\d+(?: +\d+)*", line):
             block = list(map(int, line.split()))
-        elif re.match(r" ?\d+  ", line):
+        elif re.match(r" *\d+  ", line):
             words = line.split()
             link, names[int(words[0])] = int(words[0]), " ".join(words[1:-len(block)])
             cells.update({(link, other): word for other, word in zip(block, words[-len(block):])})

@@ -11,7 +11,7 @@ from jobsheet.binary import EXACT, LISTED, SPACING, Rule, Sheet, encode
 from samples import M1
 
 LEAST, MOST = -20_039_998, 19_999_995  # half kHz of any two frequencies, links and rules
-MOST_TABLE_BYTES = 16_384
+MOST_TABLE_BYTES = 65_536
 M1_WIDE = Sheet(M1.links, M1.rules, [30, 50])
 # Four links, each on the first frequency of its list: kinds 1, 2, 3 and no rule, in form 2.
 MIXED = Sheet([[100, 200], [130, 300], [130, 140], [125]],
@@ -110,8 +110,8 @@ def random_spares_call(rng):
 
 def length_calls(rng):
     """Tables of every length around that of k x k places, for plans and for cells that are none: (name, number, call)."""
-    for k in (1, 2, 3, 8, 64):
-        sheet = Sheet([[500_000 + 400 * link] for link in range(k)], [Rule(a, a + 1, SPACING, 400) for a in range(k - 1)])
+    for k in (1, 2, 3, 8, 64, 128):
+        sheet = Sheet([[500_000 + 400 * link] for link in range(k)], [Rule(a, a + 1, SPACING, 300) for a in range(k - 1)], [100] * k)
         good = struct.pack(f"<{k}I", *(listed[0] for listed in sheet.links))
         enough = 4 * k * k
         for room in sorted({0, 1, 3, 4, *range(max(enough - 5, 0), enough + 9), 2 * enough, MOST_TABLE_BYTES, MOST_TABLE_BYTES + 5}):

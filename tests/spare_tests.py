@@ -95,7 +95,7 @@ int main(void)
 """
 
 
-@test("the header's guvtemi_spare reads every place of a table, in C and C++; its table bytes are those of 64 links")
+@test("the header's guvtemi_spare reads every place of a table, in C and C++; its table bytes are those of 128 links")
 def _(args):
     rng = random.Random(args.seed + 34)
     BUILD.mkdir(parents=True, exist_ok=True)
@@ -104,11 +104,11 @@ def _(args):
         program = BUILD / f"reader-{kind}"
         done = run([compiler, *WARNINGS, "-O2", "-I", ROOT / "include", "-x", kind, "-o", program, "-"], input=READER.encode())
         need(done.returncode == 0, f"{compiler}: {done.stderr.decode()[:400]}")
-        for k in (1, 2, 5, 64):
+        for k in (1, 2, 5, 64, 128):
             numbers = [rng.choice((rng.choice(edges), rng.randrange(-2**31, 2**31))) for _ in range(k * k)]
             printed = run([program], input=bytes([k]) + struct.pack(f"<{k * k}i", *numbers)).stdout.decode().split()
             need(printed == list(map(str, numbers)), f"{compiler}, {k} links: {printed[:9]}, wanted {numbers[:9]}")
     need(header_number("guvtemi_desk.h", "GUVTEMI_MOST_TABLE_BYTES") == spare_samples.MOST_TABLE_BYTES, "GUVTEMI_MOST_TABLE_BYTES")
-    data = encode(Sheet([[1]] * 64, []))
-    calls = [spare_samples.spares_call(rng, data, b"", struct.pack("<I", 1) * 64, spare_samples.MOST_TABLE_BYTES - less) for less in range(2)]
-    need([returned for returned, *_ in native.desk_answers(driver(), calls)] == [0, 10], "64 links do not need just so many bytes")
+    data = encode(Sheet([[1]] * 128, [], [200] * 128))
+    calls = [spare_samples.spares_call(rng, data, b"", struct.pack("<I", 1) * 128, spare_samples.MOST_TABLE_BYTES - less) for less in range(2)]
+    need([returned for returned, *_ in native.desk_answers(driver(), calls)] == [0, 10], "128 links do not need just so many bytes")

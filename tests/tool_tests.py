@@ -30,10 +30,15 @@ COMMANDS = ("make", "show", "why", "plan", "counts", "picture", "dimacs", "from-
 @test("examples/README.md says what the planner answers")
 def _(_):
     rows = example_answers()
-    for name, answer, _ in rows:
+    for name, answer, row in rows:
         data = (EXAMPLES / name).read_bytes()
-        need(printed_by_program(data).splitlines()[0] == answer, f"{name}: the program says {printed_by_program(data)[:30]!r}")
-        need(reading.printed(data) == printed_by_program(data), f"{name}: the reading differs")
+        printed = printed_by_program(data)
+        need(reading.printed(data) == printed, f"{name}: the program says {printed[:30]!r}, and not the reading")
+        if binary.is_festival(data):
+            need("`refused 3`" in row and printed == "refused 3\n", f"{name}: the program says {printed[:30]!r}")
+            told = planner.plan(binary.decode(data))
+            printed = f"{told.verdict} {told.number}\n"
+        need(printed.splitlines()[0] == answer, f"{name}: the planner says {printed[:30]!r}")
     listed = {name for name, _, _ in rows}
     there = {str(path.relative_to(EXAMPLES)) for path in example_sheets()}
     need(listed == there, f"not in the table or not there: {sorted(listed ^ there)}")
@@ -306,7 +311,7 @@ def _(_):
         need(told("exit 1") == (0, "") and shared.stat().st_mtime_ns != made, "an older shared object was kept")
 
 
-@test("make and show are inverse on random sheets")
+@test("make and show are inverse on random sheets; a sheet of form 3 that form 2 holds comes back in form 2, and show says so")
 def _(args):
     rng, forms = random.Random(args.seed + 2), Counter()
     for number in range(args.cases):
@@ -314,13 +319,15 @@ def _(args):
         data = binary.encode(sheet)
         need(reading.refusal(data) == 0, "a sheet that the reading refuses")
         need(binary.encode(binary.decode(data)) == data, "encode and decode differ")
-        shown = show.show(binary.decode(data), "a sheet")
-        need(binary.encode(text.parse(shown).sheet) == data, f"make of show differs:\n{shown[:400]}")
-        need(show.show(text.parse(shown).sheet, "a sheet") == shown, "show of make differs")
-        need(("\nwidth " in shown) == (data[0] == 2), f"form {data[0]}:\n{shown[:400]}")
+        shown, said = show.show(binary.decode(data), "a sheet"), "# a sheet of form 3; form 2 holds it too, and 'tools/sheet make' writes form 2\n"
+        wanted = samples.changed(data, ("I", 0, 2)) if data[0] == 3 else data
+        need(binary.encode(text.parse(shown).sheet) == wanted, f"make of show differs:\n{shown[:400]}")
+        need((said in shown) == (data[0] == 3), f"form {data[0]}: {shown[:200]}")
+        need(show.show(text.parse(shown).sheet, "a sheet") == shown.replace(said, ""), "show of make differs")
+        need(("\nwidth " in shown) == (data[0] != 1), f"form {data[0]}:\n{shown[:400]}")
         forms[data[0]] += 1
-    need(forms[1] and forms[2], f"not both forms arose: {forms}")
-    return f"{args.cases:,} sheets, {forms[2]:,} of form 2"
+    need(all(forms[form] for form in (1, 2, 3)), f"not every form arose: {forms}")
+    return f"{args.cases:,} sheets, {forms[2]:,} of form 2, {forms[3]:,} of form 3"
 
 
 WIDTHS_HEAD = "job x\nlink A 500.0\nlink B 500.5\nlink C 501.0\n"
@@ -419,7 +426,7 @@ def _(args):
         wanted = reading.console_check(binary.encode(sheet), struct.pack(f"<{len(cells)}I", *cells)) == reading.YES
         need(spacing.keeps_rules(sheet, cells) == wanted, f"{sheet}, {cells}: wanted {wanted}")
         seen[sheet.form(), wanted] += 1
-    need(len(seen) == 4, f"{seen}")  # both forms, both answers
+    need(len(seen) == 6, f"{seen}")  # three forms, both answers
     for allowed, sheet in samples.edge_sheets():
         need(spacing.keeps_rules(sheet, [listed[0] for listed in sheet.links]) == allowed, f"{sheet}: wanted {allowed}")
     for _ in range(args.cases // 2):
@@ -429,7 +436,7 @@ def _(args):
         need(spacing.keeps_rules(sheet, cells, listed) == said[0], f"{sheet}, {cells}, channels {list(listed)}: wanted {said[0]}")
         seen["struck"] += said == [False, True]
     need(seen["struck"], "no plan failed for its struck frequencies alone")
-    return f"{seen[1, True] + seen[2, True]:,} of {args.cases:,} plans keep the rules"
+    return f"{sum(seen[form, True] for form in (1, 2, 3)):,} of {args.cases:,} plans keep the rules"
 
 
 @test("tables and pictures: links without a rule count, free links do not")
@@ -725,6 +732,10 @@ def _(args):
         seen[returned] += 1
     for data in inputs[:60] + inputs[-40:]:
         said, told = run([SHEET, "why", "-"], input=data).stdout.decode(), printed_by_program(data)
+        if binary.is_festival(data):
+            need(told == "refused 3\n" and "answer 3 to every sheet of form 3" in said, f"why says {said!r}, the program {told[:30]!r}")
+            continue
+        need("form 3:" not in said, f"why says {said!r}")
         need(told.startswith("refused") == said.startswith("refused"), f"why says {said[:30]!r}, the program {told[:30]!r}")
         need(not told.startswith("refused") or said.startswith(told.strip() + ":"), f"why says {said[:30]!r}, the program {told[:30]!r}")
     of_sheets = [number for number in binary.CAUSES if number != 17]
@@ -768,9 +779,10 @@ def _(args):
 
 
 def labels_apart(svg):
-    """Holds the text boxes of a picture apart, by the width of a fixed-width font."""
-    boxes = []
-    for node in xml.dom.minidom.parseString(svg).getElementsByTagName("text"):
+    """Holds the text boxes of a picture apart and inside it, by the width of a fixed-width font."""
+    boxes, drawn = [], xml.dom.minidom.parseString(svg)
+    wide, tall = (float(drawn.documentElement.getAttribute(side)) for side in ("width", "height"))
+    for node in drawn.getElementsByTagName("text"):
         size = 17 if node.getAttribute("class") == "title" else 11
         long, high = 0.602 * size * width(node.firstChild.data), 0.7 * size
         turned = re.match(r"translate\(([-\d.]+) ([-\d.]+)\)", node.getAttribute("transform"))
@@ -782,6 +794,6 @@ def labels_apart(svg):
             x -= {"start": 0, "middle": long / 2, "end": long}[node.getAttribute("text-anchor")]
             boxes.append((x, y - high, x + long, y))
     for index, (left, top, right, bottom) in enumerate(boxes):
-        need(left >= 0 and right <= 1200, f"a label leaves the picture: {left:.0f} to {right:.0f}")
+        need(left >= 0 and right <= wide and top >= 0 and bottom <= tall, f"a label leaves the picture: {left:.0f} to {right:.0f}, {top:.0f} to {bottom:.0f}")
         for left2, top2, right2, bottom2 in boxes[:index]:
             need(right <= left2 or right2 <= left or bottom <= top2 or bottom2 <= top, "two labels overlap")

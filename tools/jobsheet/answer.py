@@ -114,9 +114,11 @@ def _read(printed):
 
 
 def plan(sheet, channels=()):
-    """The answer to an accepted sheet with these channels on air: the desk's, or the program's where there are none."""
-    answer = ask_desk(encode(sheet), len(sheet.links), channels) if channels else ask(encode(sheet))
-    return _held(sheet, channels, answer, "rt staticlib desk" if channels else "rt check plan")
+    """The answer to an accepted sheet with these channels on air: the program's, or the desk's where there are channels or the form is 3, which the
+    program does not plan."""
+    by_desk = bool(channels) or sheet.form() == 3
+    answer = ask_desk(encode(sheet), len(sheet.links), channels) if by_desk else ask(encode(sheet))
+    return _held(sheet, channels, answer, "rt staticlib desk" if by_desk else "rt check plan")
 
 
 def count(sheet, channels=(), limit=COUNT_LIMIT):

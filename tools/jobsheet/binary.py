@@ -2,16 +2,26 @@
 
 import struct
 from dataclasses import dataclass, field
+from typing import NamedTuple
 
-MOST_LINKS, MOST_FREQUENCIES, MOST_RULES, MOST_PAIRS, MOST_KHZ, MOST_WIDTH = 64, 512, 2016, 8192, 9_999_999, 20_000
+
+
+class Form(NamedTuple):
+    """What a form of sheet holds at most, and the bytes of its link row."""
+    links: int
+    frequencies: int
+    row_bytes: int
+
+
+FORMS = {1: Form(64, 512, 4), 2: Form(64, 512, 8), 3: Form(128, 1024, 8)}
+MOST_RULES, MOST_PAIRS, MOST_KHZ, MOST_WIDTH = 2016, 8192, 9_999_999, 20_000
 HEADER = 40
-ROW_BYTES = {1: 4, 2: 8}  # of a link row, by the form
 
 SPACING, EXACT, LISTED = 1, 2, 3
 
 CAUSES = {  # in the order tested
-    1: "under 40 bytes, or a form other than 1 or 2",
-    2: "no link, or more than 64",
+    1: "under 40 bytes, or a form other than 1, 2 or 3",
+    2: "no link, or more than the form holds",
     3: "frequencies, rules or pairs beyond their limits",
     4: "an offset or the length is wrong",
     5: "a link row, or the sum of the counts",
@@ -35,14 +45,21 @@ class Rule:
 
 @dataclass
 class Sheet:
-    """One hall's job: for each link its frequencies in kHz, rising; rules rising by (a, b). Links without a rule have to differ.
-    Widths, in kHz by link, make it a sheet of form 2."""
+    """One job: for each link its frequencies in kHz, rising; rules rising by (a, b). Links without a rule have to differ.
+    Widths, in kHz by link, make it a sheet of form 2, or of form 3 where form 2 does not hold it or `festival` says so."""
     links: list
     rules: list
     widths: list = None
+    festival: bool = False
 
     def form(self):
-        return 1 if self.widths is None else 2
+        if self.widths is None:
+            return 1
+        return 3 if self.festival or not self.fits(2) else 2
+
+    def fits(self, form):
+        """Whether a form holds so many links and frequencies."""
+        return len(self.links) <= FORMS[form].links and self.frequencies() <= FORMS[form].frequencies
 
     def frequencies(self):
         return sum(len(listed) for listed in self.links)
@@ -89,13 +106,13 @@ def encode(sheet):
     """The bytes of a sheet."""
     form, k, n, q, t = sheet.form(), len(sheet.links), sheet.frequencies(), len(sheet.rules), sheet.pairs()
     offsets = [HEADER]
-    for size in (ROW_BYTES[form] * k, 4 * n, 12 * q, 4 * t):
+    for size in (FORMS[form].row_bytes * k, 4 * n, 12 * q, 4 * t):
         offsets.append(offsets[-1] + size)
     parts = [struct.pack("<10I", form, k, n, q, t, *offsets)]
     first = 0
     for link, listed in enumerate(sheet.links):
         parts.append(struct.pack("<HH", first, len(listed)))
-        if form == 2:
+        if sheet.widths:
             parts.append(struct.pack("<I", sheet.widths[link]))
         first += len(listed)
     for listed in sheet.links:
@@ -114,15 +131,24 @@ def encode(sheet):
 def decode(data):
     """The sheet that the bytes hold; raises Refused with the first fault in the order of the causes."""
     form, k, n, q, t = _header(data)
-    at_frequencies = HEADER + ROW_BYTES[form] * k
+    size = FORMS[form].row_bytes
+    at_frequencies = HEADER + size * k
     at_rules = at_frequencies + 4 * n
     at_pairs = at_rules + 12 * q
-    counts = _link_rows(data, ROW_BYTES[form], k, n)
-    widths = _widths(data, k) if form == 2 else None
+    counts = _link_rows(data, size, k, n)
+    widths = _widths(data, size, k) if form != 1 else None
     links = _frequencies(data, counts, at_frequencies)
     rules, starts = _rule_rows(data, k, q, t, at_rules)
     _pair_rows(data, links, rules, starts, at_pairs)
-    return Sheet(links, rules, widths)
+    return Sheet(links, rules, widths, form == 3)
+
+
+def is_festival(data):
+    """Whether bytes are of form 3 and pass causes 1 and 2: the console's planning call and the program refuse all of these with 3."""
+    if len(data) < HEADER:
+        return False
+    form, k = struct.unpack_from("<2I", data)
+    return form == 3 and 1 <= k <= FORMS[3].links
 
 
 def fault_of(data):
@@ -142,25 +168,26 @@ def _header(data):
     if len(data) < HEADER:
         _refuse(1, "the file as a whole", 0, f"{len(data)} bytes", "at least the 40 bytes of the header")
     form, k, n, q, t, *offsets = struct.unpack_from("<10I", data)
-    if form not in ROW_BYTES:
-        _refuse(1, "header, form", 0, f"{form:,}", "1 or 2")
-    if not 1 <= k <= MOST_LINKS:
-        _refuse(2, "header, number of links", 4, f"{k:,}", f"1 to {MOST_LINKS}")
-    if not 1 <= n <= MOST_FREQUENCIES:
-        _refuse(3, "header, number of frequencies", 8, f"{n:,}", f"1 to {MOST_FREQUENCIES}")
+    if form not in FORMS:
+        _refuse(1, "header, form", 0, f"{form:,}", "1, 2 or 3")
+    most = FORMS[form]
+    if not 1 <= k <= most.links:
+        _refuse(2, "header, number of links", 4, f"{k:,}", f"1 to {most.links} in form {form}")
+    if not 1 <= n <= most.frequencies:
+        _refuse(3, "header, number of frequencies", 8, f"{n:,}", f"1 to {most.frequencies:,} in form {form}")
     if q > MOST_RULES:
         _refuse(3, "header, number of rules", 12, f"{q:,}", f"0 to {MOST_RULES:,}")
     if t > MOST_PAIRS:
         _refuse(3, "header, number of pairs", 16, f"{t:,}", f"0 to {MOST_PAIRS:,}")
     wanted = HEADER
-    sections = (("offset of the link section", 0), ("offset of the frequency section", ROW_BYTES[form] * k),
+    sections = (("offset of the link section", 0), ("offset of the frequency section", most.row_bytes * k),
                 ("offset of the rule section", 4 * n), ("offset of the pair section", 12 * q),
                 ("length of the sheet", 4 * t))
     for index, (name, before) in enumerate(sections):
         wanted += before
         if offsets[index] != wanted:
             _refuse(4, f"header, {name}", 20 + 4 * index, f"{offsets[index]:,}",
-                    f"{wanted:,}, by form {form} ({ROW_BYTES[form]} bytes a link row), {k} links, {n} frequencies, {q} rules and {t} pairs")
+                    f"{wanted:,}, by form {form} ({most.row_bytes} bytes a link row), {k} links, {n} frequencies, {q} rules and {t} pairs")
     if len(data) != wanted:
         _refuse(4, "the file as a whole", min(len(data), wanted), f"{len(data):,} bytes",
                 f"{wanted:,} bytes, as the length at byte 36 says")
@@ -185,10 +212,10 @@ def _link_rows(data, size, k, n):
     return counts
 
 
-def _widths(data, k):
+def _widths(data, size, k):
     widths = []
     for link in range(k):
-        offset = HEADER + ROW_BYTES[2] * link + 4
+        offset = HEADER + size * link + 4
         width, = struct.unpack_from("<I", data, offset)
         if not 1 <= width <= MOST_WIDTH:
             _refuse(16, f"link {link}, width", offset, f"{width:,} kHz", f"1 to {MOST_WIDTH:,} kHz")

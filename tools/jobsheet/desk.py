@@ -14,7 +14,7 @@ from pathlib import Path
 ROOT = Path(__file__).resolve().parents[2]
 ARCHIVE = ROOT / "target" / "staticlib" / "libdesk.a"
 SHARED = ROOT / "target" / "desk" / "libdesk.so"
-MOST_GRAPH_BYTES, MOST_COUNT_BYTES, ENOUGH_SHEET_BYTES = 1_235_834, 177, 65_536
+MOST_GRAPH_BYTES, MOST_COUNT_BYTES, ENOUGH_SHEET_BYTES = 5_117_642, 355, 65_536
 
 SLICE = [ctypes.c_void_p, ctypes.c_size_t]
 

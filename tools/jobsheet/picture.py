@@ -1,6 +1,7 @@
-"""The band as an SVG: carriers on a frequency axis, in form 2 as wide as they are, and below them a lane per link with its candidate frequencies;
-the television channels on air are shaded, and the frequencies that they take crossed out."""
+"""The band as an SVG: carriers on a frequency axis, where the sheet has widths as wide as they are, and below them a lane per link with its candidate
+frequencies; the television channels on air are shaded, and the frequencies that they take crossed out."""
 
+import math
 from xml.sax.saxutils import escape
 
 from . import channels as air
@@ -12,10 +13,11 @@ from .columns import cut, kilohertz, width
 from .spacing import spacings, tightest
 from .text import mhz
 
-WIDE = 1200            # of the picture, in pixels
+WIDE = 1200            # of the picture, in pixels; more where the labels of many links need it
 RIGHT = 36             # margin
 CHARACTER = 6.7        # of the fixed-width font at size 11
 LABEL_STEP = 13        # between two upright labels
+EDGE = 6               # from the left end of the axis to the first label
 LONGEST_NAME = 20      # columns; a longer name is cut, its tooltip has it whole
 LEADER, STEM = 34, 70  # heights: from a label to its carrier, and of a carrier
 
@@ -36,7 +38,7 @@ text { font-family: 'DejaVu Sans Mono', Menlo, Consolas, monospace; font-size: 1
 .worst-text { fill: #c0281c }
 """
 
-# More of it in form 2.
+# More of it with widths.
 WIDTH_STYLE = """.centre { stroke-width: 1 }
 .band { fill: #1f4e79; fill-opacity: 0.5 }
 .worst-band { fill: #c0281c; fill-opacity: 0.5 }
@@ -72,8 +74,9 @@ class _Picture:
         self.worst = tightest(spacings(self.sheet, self.plan, answer.spares))
         self.worst_links = self.worst.links if self.worst else ()
         left = 24 + CHARACTER * max(10, 4 + max(width(name) for name in self.names))
-        self.edges = self.sheet.form() == 2
-        self.axis = Axis([self._stretch(link, khz) for link, listed in enumerate(self.sheet.links) for khz in listed], left, WIDE - RIGHT)
+        self.wide = max(WIDE, math.ceil(left + EDGE + LABEL_STEP * (len(self.names) - 1) + RIGHT))
+        self.edges = self.sheet.widths is not None
+        self.axis = Axis([self._stretch(link, khz) for link, listed in enumerate(self.sheet.links) for khz in listed], left, self.wide - RIGHT)
         self.channels = job.channels
         self.plans = tally.plans(answer) if answer.counts else None
         self.behind, self.shapes = [], []
@@ -95,10 +98,10 @@ class _Picture:
             y = self._bracket(y)
         height = self._lanes(y)
         return "\n".join([
-            f'<svg xmlns="http://www.w3.org/2000/svg" width="{WIDE}" height="{height:.0f}" viewBox="0 0 {WIDE} {height:.0f}">',
+            f'<svg xmlns="http://www.w3.org/2000/svg" width="{self.wide}" height="{height:.0f}" viewBox="0 0 {self.wide} {height:.0f}">',
             f"<title>{escape(self.job.name)}</title>",
             f"<style>{STYLE}{WIDTH_STYLE if self.edges else ''}{COUNT_STYLE if self.answer.counts else ''}{AIR_STYLE if self.channels else ''}</style>",
-            f'<rect width="{WIDE}" height="{height:.0f}" fill="white"/>', *self.behind, *self.shapes, "</svg>", ""])
+            f'<rect width="{self.wide}" height="{height:.0f}" fill="white"/>', *self.behind, *self.shapes, "</svg>", ""])
 
     def _write(self, x, y, words, kind="", anchor="start", more=""):
         self.shapes.append(f'<text x="{x:.1f}" y="{y:.1f}" class="{kind}" text-anchor="{anchor}"{more}>{escape(words)}</text>')
@@ -116,7 +119,7 @@ class _Picture:
                            f"<title>{escape(told)}, {self.sheet.widths[link]:,} kHz wide</title></rect>")
 
     def _heading(self, y):
-        most = int((WIDE - 60) / CHARACTER)
+        most = int((self.wide - 60) / CHARACTER)
         self._write(24, y, cut(self.job.name, most * 11 // 17), "title")
         told = tally.said(self.answer) if self.answer.counts else said(self.answer)
         self._write(24, y + 21, cut(f"{self.sheet.counted()}: {told}", most))
@@ -132,7 +135,7 @@ class _Picture:
         order = sorted(range(len(self.plan)), key=lambda link: (self.plan[link], link))
         words = {link: f"{self.names[link]} {mhz(self.plan[link])}" for link in order}
         bottom = y + CHARACTER * max(width(word) for word in words.values())
-        places = spread([self.axis.x(self.plan[link]) for link in order], LABEL_STEP, self.axis.left + 6, self.axis.right)
+        places = spread([self.axis.x(self.plan[link]) for link in order], LABEL_STEP, self.axis.left + EDGE, self.axis.right)
         # The worst pair comes last, so that nothing is drawn over it.
         for link, place in sorted(zip(order, places), key=lambda item: item[0] in self.worst_links):
             x = self.axis.x(self.plan[link])

@@ -7,11 +7,13 @@ PAIRS_A_LINE = 6
 
 
 def show(sheet, job):
-    """The text of a sheet under a job's name without quotes: reading it gives the same sheet, byte for byte."""
+    """The text of a sheet under a job's name without quotes. Reading it gives the same sheet, byte for byte; of a sheet of form 3 that form 2 holds
+    it gives that of form 2."""
     names = [f"link{link}" for link in range(len(sheet.links))]
     units = "distances in kHz" if sheet.form() == 1 else "widths and distances in kHz; 'apart' is from edge to edge"
     lines = [f'job "{job}"',
-             f"# {sheet.counted()}; frequencies in MHz, {units}", ""]
+             f"# {sheet.counted()}; frequencies in MHz, {units}"]
+    lines += ["# a sheet of form 3; form 2 holds it too, and 'tools/sheet make' writes form 2", ""] if sheet.form() == 3 and sheet.fits(2) else [""]
     for name, listed in zip(names, sheet.links):
         lines.append(f"link {name} " + " ".join(mhz(khz) for khz in listed))
     if sheet.widths:

@@ -93,13 +93,13 @@ def clashes(spares):
 # ---- Tables
 
 def table(sheet, names, answer):
-    """The plan line by line: link number, name, MHz, the width in form 2, the spare spacing of the link's tightest pair and with whom, and who
-    shares its carrier."""
+    """The plan line by line: link number, name, MHz, the width where there are widths, the spare spacing of the link's tightest pair and with
+    whom, and who shares its carrier."""
     found = spacings(sheet, answer.khz, answer.spares)
     mine = [[near for near in found if link in near.links] for link in range(len(names))]
     worst = [tightest(every) for every in mine]
     spare = by_point([kilohertz(near.spare) if near else "-" for near in worst])
-    wide, edges = max([width(name) for name in names] + [4]), sheet.form() == 2
+    wide, edges = max([width(name) for name in names] + [4]), sheet.widths is not None
     rows = [f"link  {left('name', wide)}        MHz  {'kHz wide  ' * edges}kHz spare  tightest pair"]
     for link, (name, khz) in enumerate(zip(names, answer.khz)):
         column = f"{sheet.widths[link]:8}  " if edges else ""
@@ -129,12 +129,14 @@ def spare_table(sheet, names, answer, columns):
     texts = ["-" if a == b else "free" if (min(a, b), max(a, b)) in free else kilohertz(answer.spares[a][b]) for a in links for b in links]
     cells = by_point(texts)
     rowed = [cut(name, LONGEST_NAME) for name in names]
-    wide, named = max(len(cells[0]), LEAST_COLUMN) + 2, max(map(width, rowed))
-    most = max((columns - 4 - named) // wide, 1)
+    wide, named, digits = max(len(cells[0]), LEAST_COLUMN) + 2, max(map(width, rowed)), max(len(f"{links[-1]}"), 2)
+    beside = digits + 2 + named
+    most = max((columns - beside) // wide, 1)
     rows = ["spare spacing of every two links, in kHz"]
     for start in range(0, len(names), most):
         block = links[start:start + most]
-        rows += ["", " " * (4 + named) + "".join(right(f"{link}", wide) for link in block),
-                 " " * (4 + named) + "".join(right(cut(names[link], wide - 2), wide) for link in block)]
-        rows += [f"{link:2}  {left(rowed[link], named)}" + "".join(right(cells[len(names) * link + other], wide) for other in block) for link in links]
+        rows += ["", " " * beside + "".join(right(f"{link}", wide) for link in block),
+                 " " * beside + "".join(right(cut(names[link], wide - 2), wide) for link in block)]
+        rows += [f"{link:{digits}}  {left(rowed[link], named)}" + "".join(right(cells[len(names) * link + other], wide) for other in block)
+                 for link in links]
     return "\n".join(row.rstrip() for row in rows)

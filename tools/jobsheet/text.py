@@ -7,9 +7,10 @@ from dataclasses import dataclass, field
 from fractions import Fraction
 
 from . import channels
-from .binary import (EXACT, LISTED, MOST_FREQUENCIES, MOST_KHZ, MOST_LINKS, MOST_PAIRS, MOST_WIDTH, SPACING, Rule, Sheet)
+from .binary import EXACT, FORMS, LISTED, MOST_KHZ, MOST_PAIRS, MOST_RULES, MOST_WIDTH, SPACING, Rule, Sheet
 
 NUMBER = re.compile(r"([0-9]{1,18}(?:\.[0-9]{1,18})?)(khz|mhz)?", re.IGNORECASE)
+NARROW, LARGEST = FORMS[1], FORMS[3]  # what a job without widths holds, and one with them
 WORDS = ("job", "link", "width", "apart", "exactly", "pairs", "free", "differ", "air")
 
 
@@ -114,7 +115,9 @@ class _Reader:
             self._whole(last)
         if self.faults:
             raise TextError(sorted(self.faults))
-        return Job(self.job_name, self.names, Sheet(self.links, self._all_rules(), self._all_widths()), self.notes, sorted(self.air))
+        sheet = Sheet(self.links, self._all_rules(), self._all_widths())
+        sheet.festival = sheet.form() == 3
+        return Job(self.job_name, self.names, sheet, self.notes, sorted(self.air))
 
     def _all_widths(self):
         """The width of each link of a text without faults; None where no line gives one."""
@@ -180,8 +183,8 @@ class _Reader:
         self.names.append(name)
         self.links.append([])
         self.link_lines.append(number)
-        if len(self.links) == MOST_LINKS + 1:
-            raise _Expected(f"expected at most {MOST_LINKS} links, found one more: {name}")
+        if len(self.links) == LARGEST.links + 1:
+            raise _Expected(f"expected at most {LARGEST.links} links, found one more: {name}")
         if len(words) == 2:
             raise _Expected(f"expected at least one frequency after {name}")
         for word in words[2:]:
@@ -195,8 +198,8 @@ class _Reader:
             listed[khz] = word
         self.links[-1] = sorted(listed)
         before = sum(len(other) for other in self.links[:-1])
-        if before <= MOST_FREQUENCIES < before + len(listed):
-            raise _Expected(f"expected at most {MOST_FREQUENCIES} frequencies in all, found {before + len(listed)} up to here")
+        if before <= LARGEST.frequencies < before + len(listed):
+            raise _Expected(f"expected at most {LARGEST.frequencies:,} frequencies in all, found {before + len(listed):,} up to here")
 
     def _rule(self, number, words):
         word = words[0]
@@ -323,9 +326,38 @@ class _Reader:
             self.faults.append((max(last, 1), "expected at least one line 'link NAME FREQUENCY ..', found the end of the text"))
         if sum(pairs for _, _, pairs in self.pairs_at) > MOST_PAIRS:
             self.faults.append(self._too_many_pairs())
+        if self._rules_needed() > MOST_RULES:
+            self.faults.append(self._too_many_rules())
         without = [link for link in range(len(self.links)) if link not in self.widths]
         if self.width_line and not self.width_default and without:
             self.faults.append(self._no_width(without[0]))
+        if not self.width_line:
+            self.faults += self._too_large_without_widths()
+
+    def _too_large_without_widths(self):
+        """The line with which a job without widths becomes too large for form 1, and what to do."""
+        upto = list(itertools.accumulate(map(len, self.links)))
+        give = f"; give every link a width (width WIDTH all) for up to {LARGEST.links} links and {LARGEST.frequencies:,} frequencies"
+        for link, line in enumerate(self.link_lines):
+            if link == NARROW.links:
+                return [(line, f"expected at most {NARROW.links} links in a job without widths, found one more: {self.names[link]}{give}")]
+            if upto[link] > NARROW.frequencies:
+                return [(line, f"expected at most {NARROW.frequencies} frequencies in a job without widths, found {upto[link]:,} up to here{give}")]
+        return []
+
+    def _rules_needed(self):
+        """How many rules the lines make, those of `apart .. all` too."""
+        named = sum(word != "differ" for _, word in self.named_at.values())
+        return named + (len(self.links) * (len(self.links) - 1) // 2 - len(self.named_at) if self.default else 0)
+
+    def _too_many_rules(self):
+        """The line with which the rules become too many, how many all lines need, and what to do."""
+        told = f"expected at most {MOST_RULES:,} rules in all, found {self._rules_needed():,}"
+        if self.default:
+            return self.default[1], (f"{told}, as apart .. all makes one for every two links that no other line names; write apart with the names of "
+                                     "links that disturb each other, such as those of one stage, and leave the others without a rule")
+        lines = sorted(line for line, word in self.named_at.values() if word != "differ")
+        return lines[MOST_RULES], f"{told}; leave links that do not disturb each other without a rule"
 
     def _no_width(self, link):
         """The line of a link without a width, where others have one, and what to do."""

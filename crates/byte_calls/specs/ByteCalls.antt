@@ -7,11 +7,12 @@ use lib.ListN.{length}
 use Rattle.sets.specs.Below.{tabulate}
 use Rattle.wire.specs.Fields.{le32}
 use Rattle.number_bytes.specs.NumberBytes.{numberBytes}
+use Rattle.sheet_rows.specs.Form.{hallWords, mostWords}
 use Rattle.rules.specs.Job.{Job}
 use Rattle.rules.specs.Plans.{checked}
 use Rattle.setting.specs.Setting.{Setting}
-use Rattle.work_words.specs.Layout.{workWords}
 use Rattle.planner.specs.Outcome.{Outcome, outcome}
+use Rattle.hall_plan.specs.Hall.{hallOutcome}
 
 -- "one 64-bit number: the nodes plus 2^32 times the refusal number, or times 100 for found, 101 for no plan, 102 for
 -- stopped"
@@ -34,10 +35,13 @@ cellIn bytes l = le32 bytes (4 * l)
 unfoldable pub cellsIn : List ℕ → List ℕ
 cellsIn bytes = tabulate (length bytes / 4) (cellIn bytes)
 
--- the planning call with `room` bytes for its cells: "That planning call has work words of its own, so 11 does not
--- arise there"
+-- the planning calls with `room` bytes for their cells, each with "work words of its own, so 11 does not arise there":
+-- the desk's, which has as many as any form needs, and the console's, "whose buffers stay small"
 unfoldable pub outcomeIn : Job → Setting → ℕ → Outcome
-outcomeIn job x room = outcome job x (room / 4) workWords
+outcomeIn job x room = outcome job x (room / 4) mostWords
+
+unfoldable pub hallOutcomeIn : Job → Setting → ℕ → Outcome
+hallOutcomeIn job x room = hallOutcome job x (room / 4) hallWords
 
 -- "Checking returns 0 for no, 100 for yes, or the refusal number"
 unfoldable pub checkedIn : Job → List ℕ → ℕ

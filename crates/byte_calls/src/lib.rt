@@ -11,8 +11,10 @@ ghost use Rattle.rules.specs.Plans.{checked};
 ghost use Rattle.setting.specs.Setting.{settingOf};
 ghost use Rattle.planner.specs.Outcome.{outcome};
 ghost use Rattle.planner.specs.Planned.{verdictNumber};
-ghost use Rattle.byte_calls.specs.ByteCalls.{outcomeIn, checkedIn, Handed, cellIn};
+ghost use Rattle.hall_plan.specs.Hall.{hallOutcome};
+ghost use Rattle.byte_calls.specs.ByteCalls.{outcomeIn, hallOutcomeIn, checkedIn, Handed, cellIn};
 pub use cell_bytes::get_cells;
+use hall_plan::plan_hall;
 use number_bytes::put_fours;
 use planner::Planned;
 use planner::check;
@@ -30,12 +32,12 @@ pub fn number(p: Planned) -> u64
     nodes + 4294967296 * (verdict_number(verdict) as u64)
 }
 
-// The cells that the library is lent: no sheet has more than 64 links.
-pub fn lent(bytes: usize) -> usize
-    ensures { λ r. ⌜ (r ≡ min (bytes / 4) 64) × (r ≤ 64) ⌝ }
+// The cells that the library is lent, for a call with so many bytes: at most as many as there are.
+pub fn lent(bytes: usize, most: usize) -> usize
+    ensures { λ r. ⌜ (r ≡ min (bytes / 4) most) × (r ≤ most) ⌝ }
 {
     let m = bytes / 4;
-    if m < 64 { m } else { 64 }
+    if m < most { m } else { most }
 }
 
 // Plans in the cells and words lent, and writes the cells as bytes.
@@ -58,7 +60,7 @@ fn plan_into(
     number(p)
 }
 
-// Plans a job. The work words are the call's own.
+// Plans a job of any form. The work words are the call's own.
 pub fn plan_bytes(
     sheet: &[u8],
     channels: &[u8],
@@ -70,10 +72,56 @@ pub fn plan_bytes(
         (settingOf options (now (classes .entry))) (length (now (bytes .entry))))
         (length (now (bytes .entry))) r (now (bytes .exit)) ⌝ }
 {
+    let mut work = [0u64; 32768];
+    let mut cells = [0u32; 128];
+    let m = lent(bytes.len(), 128);
+    plan_into(
+        sheet,
+        channels,
+        options,
+        classes,
+        &mut cells[..m],
+        &mut work,
+        bytes,
+    )
+}
+
+// Plans a job of a hall in the cells and words lent, and writes the cells as bytes.
+fn plan_hall_into(
+    sheet: &[u8],
+    channels: &[u8],
+    options: Options,
+    classes: &[u8],
+    cells: &mut [u32],
+    work: &mut [u64],
+    bytes: &mut [u8],
+) -> u64
+    ensures { λ r. ⌜ Handed (hallOutcome (jobWith (now (sheet .entry)) (now (channels .entry)))
+        (settingOf options (now (classes .entry)))
+        (length (now (cells .entry))) (length (now (work .entry))))
+        (length (now (bytes .entry))) r (now (bytes .exit)) ⌝ }
+{
+    let p = plan_hall(sheet, channels, options, classes, cells, work);
+    put_fours(cells, bytes);
+    number(p)
+}
+
+// Plans a job of a hall. The work words are the call's own, and as few as a hall needs.
+pub fn plan_hall_bytes(
+    sheet: &[u8],
+    channels: &[u8],
+    options: Options,
+    classes: &[u8],
+    bytes: &mut [u8],
+) -> u64
+    ensures { λ r. ⌜ Handed (hallOutcomeIn (jobWith (now (sheet .entry)) (now (channels .entry)))
+        (settingOf options (now (classes .entry))) (length (now (bytes .entry))))
+        (length (now (bytes .entry))) r (now (bytes .exit)) ⌝ }
+{
     let mut work = [0u64; 8192];
     let mut cells = [0u32; 64];
-    let m = lent(bytes.len());
-    plan_into(
+    let m = lent(bytes.len(), 64);
+    plan_hall_into(
         sheet,
         channels,
         options,
@@ -98,7 +146,7 @@ fn check_into(sheet: &[u8], channels: &[u8], bytes: &[u8], cells: &mut [u32]) ->
 pub fn check_bytes(sheet: &[u8], channels: &[u8], bytes: &[u8]) -> u64
     ensures { λ r. ⌜ r ≡ checkedIn (jobWith (now (sheet .entry)) (now (channels .entry))) (now (bytes .entry)) ⌝ }
 {
-    let mut cells = [0u32; 64];
-    let m = lent(bytes.len());
+    let mut cells = [0u32; 128];
+    let m = lent(bytes.len(), 128);
     check_into(sheet, channels, bytes, &mut cells[..m])
 }

@@ -35,6 +35,7 @@ use Rattle.sets.specs.Choices
 use Rattle.counting.specs.Plans as Counted
 use Rattle.counting.specs.Outcome as Counting
 use Rattle.lines.specs.Lines
+use Rattle.hall_plan.specs.Hall
 use Rattle.text.specs.Text
 use Rattle.dimacs.specs.Lists
 use Rattle.dimacs.specs.Export
@@ -106,7 +107,7 @@ unfolding Lines.ascii Lines.digits Lines.decimal Lines.ending Lines.line
 openLines = tt
 
 unfoldable pub openText : Unit {0}
-unfolding openLines Text.linkLines Text.printedOf Text.printed
+unfolding openLines Hall.isFestival Hall.hallOutcome Text.linkLines Text.printedOf Text.printed
 openText = tt
 
 unfoldable pub openExport : Unit {0}

@@ -1,23 +1,25 @@
--- The jobs with known results to prove: M1 to M12 as one list, and those of Asks 2, 3, 4 and 5. A case that holds
+-- The jobs with known results to prove: M1 to M12 as one list, and those of Asks 2 to 5 and 9. A case that holds
 -- computes to true.
 use mathlib.Core.Bool.{Bool, true, false, _&&_}
-use mathlib.Core.List.{List, [], _∷_}
+use mathlib.Core.List.{List, [], _∷_, _++_}
 use Prim.Native.Nat.{ℕ, _+_}
 use Prim.Native.String.{String}
 use lib.Dec.{T, eqb}
 use lib.IntN.{ℤ, pos, negsuc, negℤ}
-use lib.ListN.{length}
+use lib.ListN.{length, take, replicate}
 use Rattle.sets.specs.Below.{all}
 use Rattle.sheet.specs.Sheet.{nOf}
 use Rattle.sheet.specs.Refusal.{refusal}
+use Rattle.wire.specs.Fields.{bytes32}
 use Rattle.rules.specs.Job.{Job, jobOf, jobWith, unstruck}
 use Rattle.rules.specs.Plans.{checked}
 use Rattle.spares.specs.Spares.{answerFor, placeLeft}
 use Rattle.filters.specs.PreFilter.{preFilter}
 use Rattle.graph.specs.Graph.{layer, graphOf}
 use Rattle.setting.specs.Setting.{Setting}
-use Rattle.work_words.specs.Layout.{workWords}
+use Rattle.sheet_rows.specs.Form.{hallWords}
 use Rattle.planner.specs.Outcome.{Outcome, outcome}
+use Rattle.demands.specs.FormThree.{inFormThree}
 use Rattle.lines.specs.Lines.{ascii}
 use Rattle.text.specs.Text.{printed}
 use Rattle.cases.specs.Encode.{RuleGiven, encode, encodeWide}
@@ -56,7 +58,7 @@ example3 =
 -- a planning call of a sheet, under each filter of a list and each choice of a list, with a plan cell for each cell of
 -- the outcome; the printed text; the vertices that the pre-filter leaves; the reader's number; the check's, of cells; a
 -- planning call of a job, under each filter of a list, by a setting for each; the check's number; the answer and the
--- table of a call for spares, which is lent the places that are named
+-- table of a call for spares, which is lent the places that are named; a planning call of a sheet in so many work words
 pub data Case : Type 0 where
   plans : List ℕ → List ℕ → List ℕ → Outcome → Case
   prints : List ℕ → String → Case
@@ -66,6 +68,7 @@ pub data Case : Type 0 where
   plansJob : Job → List ℕ → (ℕ → Setting) → Outcome → Case
   checksJob : Job → List ℕ → ℕ → Case
   shows : Job → List ℕ → ℕ → List ℤ → Case
+  plansIn : ℕ → List ℕ → Outcome → Case
 
 abbrev pub sameList : List ℕ → List ℕ → Bool
 sameList [] [] = true
@@ -115,7 +118,7 @@ isLeft job = preFilter (graphOf job (layer job)) (layer job) (unstruck job)
 
 -- the planning call of a job gives the outcome under each filter of a list
 abbrev pub given : Job → List ℕ → (ℕ → Setting) → Outcome → Bool
-given job filters x o = each filters λ filter. sameOutcome (outcome job (x filter) (length (o .cells)) workWords) o
+given job filters x o = each filters λ filter. sameOutcome (outcome job (x filter) (length (o .cells)) hallWords) o
 
 abbrev pub holds : Case → Bool
 holds (plans s filters choices o) = each choices λ choice. given (jobOf s) filters (choosing choice) o
@@ -127,6 +130,7 @@ holds (plansJob job filters x o) = given job filters x o
 holds (checksJob job cells number) = eqb (checked job cells) number
 holds (shows job cells number table) =
     eqb (answerFor job cells (length table)) number && samePlaces (placeLeft job cells (length table)) 0 table
+holds (plansIn words s o) = sameOutcome (outcome (jobOf s) (choosing 0 0) (length (o .cells)) words) o
 
 abbrev pub allHold : List Case → Bool
 allHold [] = true
@@ -274,5 +278,35 @@ spare =
     shows (jobWith besideAir (20 ∷ [])) (501999 ∷ 493999 ∷ []) 10 [] ∷
     shows (jobOf (wide 0 50 1 360)) (500400 ∷ 500000 ∷ []) 16 [] ∷ []
 
+-- Ask 9: a header alone, of a form with k links
+abbrev pub head : ℕ → ℕ → List ℕ
+head form k = bytes32 form ++ (bytes32 k ++ replicate 32 0)
+
+-- a sheet of form 2 plans alike with form 3 in its header; each form with its own words, links and frequencies; the
+-- program answers 3 where 1 and 2 are passed
+abbrev pub festivals : List Case
+festivals =
+    plansIn 32768 (inFormThree (wide 30 50 1 360)) (foundIn 4 (500400 ∷ 500000 ∷ [])) ∷
+    plansIn 32767 (inFormThree (wide 30 50 1 360)) (refusedBy 11) ∷
+    plansIn 8192 (wide 30 50 1 360) (foundIn 4 (500400 ∷ 500000 ∷ [])) ∷
+    plansIn 8191 (wide 30 50 1 360) (refusedBy 11) ∷
+    plansIn 8191 twoLinks (refusedBy 11) ∷
+    checks (inFormThree (wide 30 50 1 360)) (500400 ∷ 500000 ∷ []) 100 ∷
+    checks (inFormThree (wide 30 51 1 360)) (500400 ∷ 500000 ∷ []) 0 ∷
+    reads (inFormThree (wide 0 50 1 360)) 16 ∷
+    reads (inFormThree twoLinks) 4 ∷
+    reads (head 4 1) 1 ∷
+    reads (head 1 65) 2 ∷
+    reads (head 2 64) 3 ∷
+    reads (head 2 65) 2 ∷
+    reads (head 3 128) 3 ∷
+    reads (head 3 129) 2 ∷
+    prints (inFormThree (wide 30 50 1 360)) "refused 3\n" ∷
+    prints (head 3 128) "refused 3\n" ∷
+    prints (head 3 129) "refused 2\n" ∷
+    prints (head 3 0) "refused 2\n" ∷
+    prints (take 39 (head 3 1)) "refused 1\n" ∷ []
+
 abbrev pub CasesHold : Type 0
-CasesHold = T (allHold cases && (allHold shared && (allHold edges && (allHold onAir && allHold spare))))
+CasesHold =
+    T (allHold cases && (allHold shared && (allHold edges && (allHold onAir && (allHold spare && allHold festivals)))))

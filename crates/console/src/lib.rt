@@ -1,12 +1,13 @@
-// The console's two calls, with numbers and byte slices, for a C program. They lend no list of channels. Their
-// contracts cite specs/ByteCalls.antt of the crate byte_calls, for every input.
+// The console's two calls, with numbers and byte slices, for a C program. They lend no list of channels; planning is
+// for halls, forms 1 and 2, the check takes every form. Their contracts cite specs/ByteCalls.antt of the crate
+// byte_calls, for every input.
 ghost use mathlib.Core.Path.{_≡_};
 ghost use lib.ListN.{length};
 ghost use Rattle.rules.specs.Job.{jobOf};
 ghost use Rattle.setting.specs.Setting.{settingOf};
-ghost use Rattle.byte_calls.specs.ByteCalls.{outcomeIn, checkedIn, Handed};
+ghost use Rattle.byte_calls.specs.ByteCalls.{hallOutcomeIn, checkedIn, Handed};
 use byte_calls::check_bytes;
-use byte_calls::plan_bytes;
+use byte_calls::plan_hall_bytes;
 use setting::Options;
 
 // Plans a sheet. The work words are the call's own.
@@ -19,7 +20,7 @@ pub extern "C" fn guvtemi_plan(
     classes: &[u8],
     bytes: &mut [u8],
 ) -> u64
-    ensures { λ r. ⌜ Handed (outcomeIn (jobOf (now (sheet .entry)))
+    ensures { λ r. ⌜ Handed (hallOutcomeIn (jobOf (now (sheet .entry)))
         (settingOf (record { filter = filter; choice = choice; limit = limit }) (now (classes .entry)))
         (length (now (bytes .entry))))
         (length (now (bytes .entry))) r (now (bytes .exit)) ⌝ }
@@ -29,7 +30,7 @@ pub extern "C" fn guvtemi_plan(
         choice,
         limit,
     };
-    plan_bytes(sheet, b"", options, classes, bytes)
+    plan_hall_bytes(sheet, b"", options, classes, bytes)
 }
 
 // Checks cells against a sheet: 0 for no, 100 for yes, or the refusal's number.

@@ -1,5 +1,5 @@
--- A counting call lent 64 cells and 512 counts gives the caller what one lent more gives: a sheet has at most 64 links
--- and 512 frequencies, and what is past them is zero.
+-- A counting call lent 128 cells and 1,024 counts gives the caller what one lent more gives: a sheet has at most 128
+-- links and 1,024 frequencies, and what is past them is zero.
 use mathlib.Core.Path.{_≡_, refl, sym, ap, _∙_}
 use mathlib.Core.Bool.{Bool, true, false, cond}
 use mathlib.Core.List.{List}
@@ -15,12 +15,12 @@ use Rattle.rules.specs.Job.{Job}
 use Rattle.search.specs.Limit.{Answer, plan, none, stopped, answer}
 use Rattle.zeros.proofs.Zeros.{zeros-at}
 use Rattle.setting.specs.Setting.{Setting, counting}
-use Rattle.work_words.specs.Layout.{workWords}
+use Rattle.sheet_rows.specs.Form.{mostLinks, mostFreqs, mostWords}
 use Rattle.planner.specs.Outcome.{callRefusal, outcomeOf, outcome}
 use Rattle.planner.proofs.Accepted.{call-accepted}
 use Rattle.planner.proofs.Outcomes.{outcome-accepted}
 use Rattle.number_bytes.proofs.NumberBytes.{same-bytes}
-use Rattle.byte_calls.proofs.FewerCells.{Alike, getD-tabled, lesser, lent-cause, lent-alike, alike-handed}
+use Rattle.byte_calls.proofs.FewerCells.{Alike, getD-tabled, lesser, few-links, lent-cause, lent-alike, alike-handed}
 use Rattle.counting.specs.Plans.{plansWith}
 use Rattle.counting.specs.Outcome.{countingRefusal, longerTreeOf, countOf, countsFor, CountingOutcome, countingOutcome}
 use Rattle.counting.proofs.Outcomes.{cause-same, causes-passed, counting-refused, counting-accepted}
@@ -31,17 +31,18 @@ pub record AlikeCounting (o p : CountingOutcome) : Type 0 where
   pub outcome : Alike (o .outcome) (p .outcome)
   pub counts : (i : ℕ) → getD (o .counts) i 0 ≡ getD (p .counts) i 0
 
-module _ (job : Job) (x : Setting) (m r u s : ℕ) (em : r ≡ min m 64) (eu : s ≡ min u 512) where
-  same-cause : countingRefusal job x r s workWords ≡ countingRefusal job x m u workWords
+module _ (job : Job) (x : Setting) (m r u s : ℕ) (em : r ≡ min m mostLinks) (eu : s ≡ min u mostFreqs) where
+  same-cause : countingRefusal job x r s mostWords ≡ countingRefusal job x m u mostWords
   unfolding countingRefusal
-  same-cause = rw (lent-cause job x m r em) (go (eqb (callRefusal job x m workWords) 0) refl)
+  same-cause = rw (lent-cause job x mostWords mostLinks (few-links (job .sheet)) m r em)
+      (go (eqb (callRefusal job x m mostWords) 0) refl)
     where
-      go : (b : Bool) → eqb (callRefusal job x m workWords) 0 ≡ b
-          → passing b (callRefusal job x m workWords) (λ _. unless (leb (nOf (job .sheet)) s) 19)
-          ≡ passing b (callRefusal job x m workWords) (λ _. unless (leb (nOf (job .sheet)) u) 19)
+      go : (b : Bool) → eqb (callRefusal job x m mostWords) 0 ≡ b
+          → passing b (callRefusal job x m mostWords) (λ _. unless (leb (nOf (job .sheet)) s) 19)
+          ≡ passing b (callRefusal job x m mostWords) (λ _. unless (leb (nOf (job .sheet)) u) 19)
       go true q =
-          let a = accepted (job .sheet) (call-accepted job x m workWords (eqb-true _ 0 q) .sheet) in
-          ap (λ b. unless b 19) (lesser (nOf (job .sheet)) u 512 s eu (a .head .n-small))
+          let a = accepted (job .sheet) (call-accepted job x m mostWords (eqb-true _ 0 q) .sheet) in
+          ap (λ b. unless b 19) (lesser (nOf (job .sheet)) u mostFreqs s eu (a .head .n-small))
       go false q = refl
 
   -- the counts of a list that is long enough, and of an answer, read anywhere
@@ -56,29 +57,29 @@ module _ (job : Job) (x : Setting) (m r u s : ℕ) (em : r ≡ min m 64) (eu : s
   counts-alike hs hu (none t) i = count-at s hs i ∙ sym (count-at u hu i)
   counts-alike hs hu (stopped t) i = zeros-at s i ∙ sym (zeros-at u i)
 
-  pub counting-alike : AlikeCounting (countingOutcome job x r s workWords) (countingOutcome job x m u workWords)
-  counting-alike = go (eqb (countingRefusal job x m u workWords) 0) refl
+  pub counting-alike : AlikeCounting (countingOutcome job x r s mostWords) (countingOutcome job x m u mostWords)
+  counting-alike = go (eqb (countingRefusal job x m u mostWords) 0) refl
     where
-      go : (b : Bool) → eqb (countingRefusal job x m u workWords) 0 ≡ b
-          → AlikeCounting (countingOutcome job x r s workWords) (countingOutcome job x m u workWords)
+      go : (b : Bool) → eqb (countingRefusal job x m u mostWords) 0 ≡ b
+          → AlikeCounting (countingOutcome job x r s mostWords) (countingOutcome job x m u mostWords)
       go true q =
-          let e = eqb-true (countingRefusal job x m u workWords) 0 q in
+          let e = eqb-true (countingRefusal job x m u mostWords) 0 q in
           let f = same-cause ∙ e in
           let a = answer (x .limit) (longerTreeOf job x) in
-          let p = causes-passed job x m u workWords e in
-          let p′ = causes-passed job x r s workWords f in
+          let p = causes-passed job x m u mostWords e in
+          let p′ = causes-passed job x r s mostWords f in
           let o : Alike (outcomeOf job r a) (outcomeOf job m a) =
           rw (
-            outcome-accepted job (counting x) r workWords (cause-same job x r s workWords ∙ p′ .0),
-            outcome-accepted job (counting x) m workWords (cause-same job x m u workWords ∙ p .0),
-          ) at (lent-alike job (counting x) m r em) in
-          rw (counting-accepted job x r s workWords f, counting-accepted job x m u workWords e)
+            outcome-accepted job (counting x) r mostWords (cause-same job x r s mostWords ∙ p′ .0),
+            outcome-accepted job (counting x) m mostWords (cause-same job x m u mostWords ∙ p .0),
+          ) at (lent-alike job (counting x) mostWords mostLinks (few-links (job .sheet)) m r em) in
+          rw (counting-accepted job x r s mostWords f, counting-accepted job x m u mostWords e)
           (record { outcome = o; counts = counts-alike (p′ .1) (p .1) a })
       go false q =
-          let ne = eqb-false (countingRefusal job x m u workWords) 0 q in
+          let ne = eqb-false (countingRefusal job x m u mostWords) 0 q in
           rw (
-            counting-refused job x r s workWords (λ i. ne (sym same-cause ∙ i)),
-            counting-refused job x m u workWords ne,
+            counting-refused job x r s mostWords (λ i. ne (sym same-cause ∙ i)),
+            counting-refused job x m u mostWords ne,
           )
           (record {
             outcome = record {

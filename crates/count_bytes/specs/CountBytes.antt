@@ -4,7 +4,7 @@ use mathlib.Core.List.{List}
 use Prim.Native.Nat.{ℕ, _/_}
 use Rattle.rules.specs.Job.{Job}
 use Rattle.setting.specs.Setting.{Setting}
-use Rattle.work_words.specs.Layout.{workWords}
+use Rattle.sheet_rows.specs.Form.{mostWords}
 use Rattle.number_bytes.specs.NumberBytes.{numberBytes}
 use Rattle.byte_calls.specs.ByteCalls.{Handed}
 use Rattle.counting.specs.Outcome.{CountingOutcome, countingOutcome}
@@ -17,4 +17,4 @@ pub record CountsHanded (o : CountingOutcome) (room space r : ℕ) (cells counts
 
 -- the counting call with that many bytes, and work words of its own
 unfoldable pub countingIn : Job → Setting → ℕ → ℕ → CountingOutcome
-countingIn job x room space = countingOutcome job x (room / 4) (space / 8) workWords
+countingIn job x room space = countingOutcome job x (room / 4) (space / 8) mostWords

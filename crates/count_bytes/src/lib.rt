@@ -2,9 +2,9 @@
 ghost use mathlib.Core.Path.{_≡_};
 ghost use Prim.Native.Nat.{_/_, _≤_, min};
 ghost use lib.ListN.{length};
+ghost use Rattle.sheet_rows.specs.Form.{mostWords};
 ghost use Rattle.rules.specs.Job.{jobWith};
 ghost use Rattle.setting.specs.Setting.{settingOf};
-ghost use Rattle.work_words.specs.Layout.{workWords};
 ghost use Rattle.counting.specs.Outcome.{countingOutcome};
 ghost use Rattle.count_bytes.specs.CountBytes.{CountsHanded, countingIn};
 use byte_calls::lent;
@@ -14,12 +14,12 @@ use number_bytes::put_eights;
 use number_bytes::put_fours;
 use setting::Options;
 
-// The counts that the library is lent: no sheet has more than 512 frequencies.
+// The counts that the library is lent: no sheet has more than 1,024 frequencies.
 fn counts_lent(bytes: usize) -> usize
-    ensures { λ r. ⌜ (r ≡ min (bytes / 8) 512) × (r ≤ 512) ⌝ }
+    ensures { λ r. ⌜ (r ≡ min (bytes / 8) 1024) × (r ≤ 1024) ⌝ }
 {
     let u = bytes / 8;
-    if u < 512 { u } else { 512 }
+    if u < 1024 { u } else { 1024 }
 }
 
 // Counts in the cells and counts lent, and writes the cells of the plan and the tally of counts as bytes. The work
@@ -36,10 +36,10 @@ fn count_into(
 ) -> u64
     ensures { λ r. ⌜ CountsHanded (countingOutcome (jobWith (now (sheet .entry)) (now (channels .entry)))
         (settingOf options (now (classes .entry))) (length (now (cells .entry))) (length (now (counts .entry)))
-        workWords) (length (now (plan .entry))) (length (now (tally .entry))) r
+        mostWords) (length (now (plan .entry))) (length (now (tally .entry))) r
         (now (plan .exit)) (now (tally .exit)) ⌝ }
 {
-    let mut work = [0u64; 8192];
+    let mut work = [0u64; 32768];
     let p = count(sheet, channels, options, classes, cells, counts, &mut work);
     put_fours(cells, plan);
     put_eights(counts, tally);
@@ -60,9 +60,9 @@ pub fn count_job_bytes(
         (length (now (tally .entry)))) (length (now (plan .entry))) (length (now (tally .entry))) r
         (now (plan .exit)) (now (tally .exit)) ⌝ }
 {
-    let mut cells = [0u32; 64];
-    let mut counts = [0u64; 512];
-    let m = lent(plan.len());
+    let mut cells = [0u32; 128];
+    let mut counts = [0u64; 1024];
+    let m = lent(plan.len(), 128);
     let u = counts_lent(tally.len());
     count_into(
         sheet,

@@ -4,3 +4,5 @@ pub mod CallDemands
 pub mod SameGraph
 pub mod NoList
 pub mod EmptyLink
+pub mod SameRows
+pub mod FormThree

@@ -4,7 +4,7 @@ use mathlib.Core.Path.{_≡_, refl, ap, _∙_}
 use mathlib.Core.Bool.{Bool, true, false, not, cond, _&&_, _||_}
 use mathlib.Core.List.{List}
 use Prim.Native.Nat.{ℕ}
-use lib.Dec.{eqb, ltb}
+use lib.Dec.{eqb, ltb, leb}
 use Rattle.sets.specs.Sets.{Set}
 use Rattle.channels.specs.Channels.{channelsOk}
 use Rattle.sheet.specs.Sheet.{kOf, nOf}
@@ -16,6 +16,7 @@ use Rattle.search.specs.Tree.{Tree}
 use Rattle.search.specs.Setting.{tree}
 use Rattle.search.specs.Limit.{Answer, plan, none, stopped, answer}
 use Rattle.setting.specs.Setting.{Setting}
+use Rattle.work_words.specs.Layout.{workWords}
 use Rattle.work_words.specs.Classes.{listOk, classesOf}
 use Rattle.planner.specs.Outcome.{settingCause, callRefusal, treeOf, outcomeOf, refused, outcome}
 use Rattle.demands.specs.SameGraph.{SameGraph, SameVerdict, GraphDecides}
@@ -50,7 +51,7 @@ module _ (job job′ : Job) (S : SameGraph job job′) where
     unfolding classesOf classesBy
     same-classes = by-graph (λ n k lay out adj. classesBy n k lay out adj x)
 
-    same-tree : treeOf job x ≡ treeOf job′ x
+    pub same-tree : treeOf job x ≡ treeOf job′ x
     unfolding treeOf classesOf unstruck treeBy classesBy
     same-tree = by-graph (λ n k lay out adj. treeBy n k lay out adj x)
 
@@ -59,10 +60,11 @@ module _ (job job′ : Job) (S : SameGraph job job′) where
     same-list = by-graph (λ n k lay out adj. listBy n k lay out adj x)
 
     module _ (r : refusal (job .sheet) ≡ refusal (job′ .sheet))
-        (q : channelsOk (job .channels) ≡ channelsOk (job′ .channels)) (m w : ℕ) where
-      same-refusal : callRefusal job x m w ≡ callRefusal job′ x m w
+        (q : channelsOk (job .channels) ≡ channelsOk (job′ .channels)) (w w′ : ℕ)
+        (h : leb (workWords (job .sheet)) w ≡ leb (workWords (job′ .sheet)) w′) (m : ℕ) where
+      pub same-refusal : callRefusal job x m w ≡ callRefusal job′ x m w′
       unfolding callRefusal settingCause
-      same-refusal = rw (r, S .links, q, same-list)
+      same-refusal = rw (r, S .links, h, q, same-list)
 
       same-answer : (a : Answer) → SameVerdict (outcomeOf job m a) (outcomeOf job′ m a)
       same-answer (plan p n) = record { answer = refl; nodes = refl }
@@ -75,15 +77,15 @@ module _ (job job′ : Job) (S : SameGraph job job′) where
       same-unless true c a = same-answer a
       same-unless false c a = record { answer = refl; nodes = refl }
 
-      same-run : SameVerdict (outcome job x m w) (outcome job′ x m w)
+      same-run : SameVerdict (outcome job x m w) (outcome job′ x m w′)
       unfolding outcome
       same-run =
-          let c = callRefusal job′ x m w in
+          let c = callRefusal job′ x m w′ in
           rw (same-refusal, same-tree) (same-unless (eqb c 0) c (answer (x .limit) (treeOf job′ x)))
 
 pub graph-decides : GraphDecides
 graph-decides = record {
   classes = same-classes;
   trees = same-tree;
-  runs = λ job job′ S r q x m w. same-run job job′ S x r q m w;
+  runs = λ job job′ S r q w w′ h x m. same-run job job′ S x r q w w′ h m;
 }

@@ -3,3 +3,4 @@ pub mod CallDemands
 pub mod SameGraph
 pub mod NoList
 pub mod EmptyLink
+pub mod FormThree

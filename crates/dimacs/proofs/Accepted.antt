@@ -1,6 +1,6 @@
 -- The reader accepts the sheet that is made.
 use mathlib.Core.Path.{_≡_, ap, _∙_}
-use mathlib.Core.Bool.{Bool, true}
+use mathlib.Core.Bool.{Bool}
 use mathlib.Core.List.{List}
 use Prim.Native.Nat.{ℕ, _≤_, _<_}
 use native.Mathlib.Omega.{arith}
@@ -10,24 +10,16 @@ use Rattle.sets.proofs.Tests.{and-in}
 use Rattle.sheet_rows.specs.declared.Form.{Form}
 use Rattle.sheet_rows.specs.Rows.{headerBytes, linkBytes}
 use Rattle.sheet_rows.proofs.Rows.{one-is}
-use Rattle.rule_sections.specs.Rules.{mostPairs, rulesOk, pairsOk}
-use Rattle.sheet.specs.Sheet.{kOf, nOf, qOf, tOf}
-use Rattle.sheet.specs.Sheet.{freqPart, rulePart, pairPart, linksOk, widthsOk, freqsOk}
+use Rattle.rule_sections.specs.Rules.{mostPairs}
+use Rattle.sheet.specs.Sheet.{kOf}
 use Rattle.sheet.proofs.Links.{no-widths}
-use Rattle.sheet.specs.Refusal.{formOk, linkCountOk, countsOk, tableOk, offsetsOk, unless, sectionCause, refusal}
+use Rattle.sheet.specs.Refusal.{formOk, linkCountOk, countsOk, tableOk, offsetsOk, refusal}
+use Rattle.sheet.proofs.Accepted.{no-cause}
 use Rattle.dimacs.specs.Reading.{verticesOf}
 use Rattle.dimacs.specs.Made.{madeBytes, pairTotal, sheetOf}
 use Rattle.dimacs.proofs.Fields.{sections}
 use Rattle.dimacs.proofs.Accepts.{Small, in-all, links-ok, freqs-ok, rules-ok, pairs-ok}
 use Rattle.dimacs.proofs.Few.{rules-few}
-
--- a sheet whose tests hold is accepted
-pub no-cause : (s : List ℕ) → formOk s ≡ true → linkCountOk s ≡ true → countsOk s ≡ true → offsetsOk s ≡ true
-    → linksOk s (kOf s) (nOf s) ≡ true → widthsOk s (kOf s) ≡ true → freqsOk s (freqPart s) (kOf s) ≡ true
-    → rulesOk (rulePart s) (kOf s) (qOf s) (tOf s) ≡ true
-    → pairsOk s (rulePart s) (pairPart s) (qOf s) ≡ true → refusal s ≡ 0
-unfolding refusal sectionCause unless
-no-cause s a b c d e w f g h = rw (a, b, c, d, e, w, f, g, h)
 
 module _ (cs : List ℕ) (adj : ℕ → ℕ → Bool) (S : Small cs) (few : pairTotal cs adj ≤ mostPairs) where
   freqs-some : 0 < verticesOf cs

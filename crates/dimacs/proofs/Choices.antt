@@ -5,7 +5,7 @@ use mathlib.Core.List.{List, [], _∷_, _++_}
 use Prim.Native.Nat.{ℕ, suc, _+_, _*_}
 use Rattle.sets.specs.Sets.{Set, _∪_, just}
 use Rattle.dimacs.specs.Reading.{Number, noNumber, number, field, newline, isEmpty, verticesOf, countFits}
-use Rattle.dimacs.specs.Reading.{counts, countsFrom, Line, noLine, anEdge, edgeLine, clashes}
+use Rattle.dimacs.specs.Reading.{noCounts, countsFrom, Line, noLine, anEdge, edgeLine, clashes}
 use Rattle.dimacs.specs.Reading.{edges, edgesFrom}
 
 -- a choice by what was read has a property if each side has it
@@ -35,13 +35,18 @@ pub edge-is {ℓ} : {A : Type ℓ} (w : Line) (x : A) (f : ℕ → ℕ → List 
     → elim w [ noLine ↦ x | anEdge u v s ↦ f u v s ] ≡ f u v s
 edge-is w x f u v s e = ap (λ c. elim c [ noLine ↦ x | anEdge u v s ↦ f u v s ]) e
 
--- one count more
+-- one count more, where it fits
+pub counts-tried : (turns : ℕ) (cs s : List ℕ) (c : ℕ) (r : List ℕ) → isEmpty s ≡ false
+    → field [] newline s ≡ number c r
+    → countsFrom (suc turns) cs s
+    ≡ elim (countFits cs c) [ true ↦ countsFrom turns (cs ++ (c ∷ [])) r | false ↦ noCounts ]
+unfolding countsFrom
+counts-tried turns cs s c r e f = no-is (isEmpty s) _ _ e ∙ number-is (field [] newline s) _ _ c r f
+
 pub counts-turn : (turns : ℕ) (cs s : List ℕ) (c : ℕ) (r : List ℕ) → isEmpty s ≡ false → field [] newline s ≡ number c r
     → countFits cs c ≡ true
     → countsFrom (suc turns) cs s ≡ countsFrom turns (cs ++ (c ∷ [])) r
-unfolding countsFrom
-counts-turn turns cs s c r e f g = no-is (isEmpty s) _ _ e ∙ number-is (field [] newline s) _ _ c r f
-    ∙ yes-is (countFits cs c) _ _ g
+counts-turn turns cs s c r e f g = counts-tried turns cs s c r e f ∙ yes-is (countFits cs c) _ _ g
 
 -- one edge more
 pub edges-turn : (cs : List ℕ) (turns m : ℕ) (E : Set) (x : Bool) (s : List ℕ) (u v : ℕ) (r : List ℕ)

@@ -1,5 +1,5 @@
 -- The two texts that export writes are read back.
-use mathlib.Core.Path.{_≡_, refl, sym, ap, _∙_, fun-ext}
+use mathlib.Core.Path.{_≡_, refl, sym, ap, subst, _∙_, fun-ext}
 use mathlib.Core.Bool.{Bool, true, false, _&&_, _||_}
 use mathlib.Core.Logic.{_⊎_, inl, inr}
 use mathlib.Core.List.{List, [], _∷_, _++_, append-nil, append-assoc}
@@ -11,24 +11,24 @@ use lib.ListN.{length, getD, length-append}
 use borrow.Author.Tests.{lt-ltb, le-ltb, le-leb, eq-eqb, ne-eqb, ltb-true, eqb-true}
 use Rattle.sets.specs.Below.{count}
 use Rattle.sets.specs.Sets.{Set, _∪_, just, nothing}
-use Rattle.sets.proofs.Tests.{bool, clash, iff, below, and-l, and-r, and-in, or-l, or-r, or-case}
+use Rattle.sets.proofs.Tests.{bool, case, clash, iff, below, and-l, and-r, and-in, or-l, or-r, or-case}
 use Rattle.sets.proofs.Below.{count-le}
 use Rattle.lines.specs.Lines.{ascii, decimal, line}
 use Rattle.dimacs.specs.Lists.{select, forEach}
 use Rattle.dimacs.specs.Export.{isEdge, edgeCodes, edgeText, graphText, countText, countsText}
 use Rattle.dimacs.specs.Reading.{field, newline, space, isEmpty, countOf, verticesOf}
-use Rattle.dimacs.specs.Reading.{layerBy, countFits, counts, countsFrom}
+use Rattle.dimacs.specs.Reading.{layerBy, countFits, CountList, noCounts, counts, countsFrom, malformed}
 use Rattle.dimacs.specs.Reading.{anEdge, isVertex, edgeTo, edgeFrom, edgeLine, clashes, edges}
 use Rattle.dimacs.specs.Reading.{edgesFrom, ofLines, linesFrom, headFrom, edgesOf, texts, textsOver}
 use Rattle.dimacs.specs.Reading.{textsBy, textsOf}
 use Rattle.dimacs.specs.Made.{joined}
 use Rattle.dimacs.specs.Import.{textGraph}
 use Rattle.dimacs.proofs.Lists.{select-length, select-at}
-use Rattle.dimacs.proofs.Choices.{yes-is, counts-turn, edges-turn}
+use Rattle.dimacs.proofs.Choices.{yes-is, counts-turn, counts-tried, edges-turn}
 use Rattle.dimacs.proofs.Codes.{code-first, code-second, code-back, code-lt, first-lt, second-lt}
 use Rattle.dimacs.proofs.Accepts.{Small}
 use Rattle.dimacs.proofs.Adjacent.{Joins, either}
-use Rattle.dimacs.proofs.Sound.{Few, vertices-more}
+use Rattle.dimacs.proofs.Sound.{Few, vertices-more, AllCounts, counts-few, none-few}
 use Rattle.lines.proofs.Decimals.{bound}
 use Rattle.dimacs.proofs.Numbers.{field-read, space-other, newline-other, line-is}
 
@@ -97,6 +97,36 @@ counts-read (d ∷ ds) cs (suc turns) F h =
     (some-left (decimal d) newline (forEach countText ds))
     (field-read newline newline-other [] d (forEach countText ds) (count-small d ds cs G)) (fits-next cs d ds G)
     ∙ counts-read ds (cs ++ (d ∷ [])) turns G (omega arith) ∙ ap counts (append-assoc cs (d ∷ []) ds)
+
+-- whatever they are, the counts of a text are read as they were written or not at all
+counts-as-written : (ds cs : List ℕ) (turns : ℕ) → ((l : ℕ) → countOf ds l < bound 20)
+    → AllCounts (λ l. l ≡ cs ++ ds) (countsFrom turns cs (countsText ds))
+unfolding countsFrom countsText forEach
+counts-as-written ds cs zero h = tt
+counts-as-written [] cs (suc turns) h = sym (append-nil cs)
+counts-as-written (d ∷ ds) cs (suc turns) h =
+    subst (λ s. AllCounts (λ l. l ≡ cs ++ (d ∷ ds)) (countsFrom (suc turns) cs s))
+    (sym (count-text d (forEach countText ds)))
+    (subst (AllCounts (λ l. l ≡ cs ++ (d ∷ ds)))
+    (sym (counts-tried turns cs (decimal d ++ (newline ∷ forEach countText ds)) d (forEach countText ds)
+    (some-left (decimal d) newline (forEach countText ds))
+    (field-read newline newline-other [] d (forEach countText ds) (h 0))))
+    (case (AllCounts (λ l. l ≡ cs ++ (d ∷ ds))) (countFits cs d) _ _
+    (λ e. subst (λ y. AllCounts (λ l. l ≡ y) (countsFrom turns (cs ++ (d ∷ [])) (countsText ds)))
+    (append-assoc cs (d ∷ []) ds) (counts-as-written ds (cs ++ (d ∷ [])) turns (λ l. h (suc l))))
+    (λ e. tt)))
+
+-- so texts whose counts are beyond the limits are not read
+pub beyond-read : (text cs : List ℕ) → ((l : ℕ) → countOf cs l < bound 20) → (Few cs → ⊥)
+    → textsOf text (countsText cs) ≡ malformed
+unfolding textsOf textsBy
+beyond-read text cs h many = go (countsFrom (length (countsText cs) + 1) [] (countsText cs))
+    (counts-as-written cs [] (length (countsText cs) + 1) h)
+    (counts-few (length (countsText cs) + 1) [] (countsText cs) none-few)
+  where
+    go : (w : CountList) → AllCounts (λ l. l ≡ cs) w → AllCounts Few w → textsBy text w ≡ malformed
+    go noCounts a b = refl
+    go (counts l) a b = absurd (many (subst Few a b))
 
 -- edges
 

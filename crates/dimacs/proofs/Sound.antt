@@ -13,7 +13,7 @@ use borrow.Author.Tests.{eq-eqb, ltb-true, leb-true, eqb-true}
 use Rattle.sets.specs.Below.{sumTo}
 use Rattle.sets.specs.Sets.{Set, _∪_, just, nothing}
 use Rattle.sets.proofs.Tests.{case, clash, below, and-l, and-r, or-l, or-case}
-use Rattle.sheet_rows.specs.Form.{mostLinks, mostFreqs}
+use Rattle.sheet_rows.specs.Form.{hallLinks, hallFreqs}
 use Rattle.dimacs.specs.Reading.{Number, noNumber, number, field, newline, space, isEmpty, countOf, firstOf}
 use Rattle.dimacs.specs.Reading.{verticesOf, layerBy, countFits, CountList, noCounts, counts, countsFrom}
 use Rattle.dimacs.specs.Reading.{Line, noLine, anEdge, isVertex, edgeTo, edgeFrom, edgeLine, clashes, Edges}
@@ -45,11 +45,11 @@ vertices-more cs c =
 few-more : (cs : List ℕ) (c : ℕ) → Few cs → countFits cs c ≡ true → Few (cs ++ (c ∷ []))
 unfolding countFits
 few-more cs c F t =
-    let a = ltb-true (length cs) mostLinks
-    (and-l (ltb (length cs) mostLinks) (ltb 0 c && leb (verticesOf cs + c) mostFreqs) t) in
-    let r = and-r (ltb (length cs) mostLinks) (ltb 0 c && leb (verticesOf cs + c) mostFreqs) t in
-    let o = ltb-true 0 c (and-l (ltb 0 c) (leb (verticesOf cs + c) mostFreqs) r) in
-    let n = leb-true (verticesOf cs + c) mostFreqs (and-r (ltb 0 c) (leb (verticesOf cs + c) mostFreqs) r) in
+    let a = ltb-true (length cs) hallLinks
+    (and-l (ltb (length cs) hallLinks) (ltb 0 c && leb (verticesOf cs + c) hallFreqs) t) in
+    let r = and-r (ltb (length cs) hallLinks) (ltb 0 c && leb (verticesOf cs + c) hallFreqs) t in
+    let o = ltb-true 0 c (and-l (ltb 0 c) (leb (verticesOf cs + c) hallFreqs) r) in
+    let n = leb-true (verticesOf cs + c) hallFreqs (and-r (ltb 0 c) (leb (verticesOf cs + c) hallFreqs) r) in
     let e = length-append cs (c ∷ []) in
     let v = vertices-more cs c in
     record {

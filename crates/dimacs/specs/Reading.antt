@@ -7,7 +7,7 @@ use lib.Dec.{ltb, leb, eqb}
 use lib.ListN.{length, getD}
 use Rattle.sets.specs.Below.{sumTo}
 use Rattle.sets.specs.Sets.{Set, _∪_, just, nothing}
-use Rattle.sheet_rows.specs.Form.{mostLinks, mostFreqs}
+use Rattle.sheet_rows.specs.Form.{hallLinks, hallFreqs}
 use Rattle.lines.specs.Lines.{ascii}
 
 -- a number and the bytes after it, or none
@@ -68,9 +68,9 @@ unfoldable pub layerBy : List ℕ → ℕ → ℕ → ℕ
 layerBy cs zero v = 0
 layerBy cs (suc m) v = cond (leb (firstOf cs m) v) m (layerBy cs m v)
 
--- "each 1 or more", within "1 to 64 links and 1 to 512 frequencies": the counts cs may be followed by c
+-- "each 1 or more", within "form 1's 1 to 64 links and 1 to 512 frequencies": the counts cs may be followed by c
 unfoldable pub countFits : List ℕ → ℕ → Bool
-countFits cs c = ltb (length cs) mostLinks && (ltb 0 c && leb (verticesOf cs + c) mostFreqs)
+countFits cs c = ltb (length cs) hallLinks && (ltb 0 c && leb (verticesOf cs + c) hallFreqs)
 
 pub data CountList : Type 0 where
   noCounts : CountList

@@ -9,12 +9,12 @@ use Rattle.sets.specs.Sets.{Set, _∖_}
 use Rattle.sheet_rows.specs.Rows.{freq}
 use Rattle.rows.specs.Rows.{rowAt}
 
--- the buckets, and the most words of one: a bit for each of 512 vertices
+-- the buckets, and the most words of one: a bit for each of 1,024 vertices
 abbrev pub buckets : ℕ
 buckets = 128
 
 abbrev pub mostWide : ℕ
-mostWide = 8
+mostWide = 16
 
 -- the bucket of a frequency. The factor is near 65,536 divided by the golden ratio: the frequencies of a raster are
 -- spread, whatever its step

@@ -116,7 +116,7 @@ pub fn separate_rows(part: &mut [u64], place: Place, fs: &[u8])
         (place .w) (place .graph) (place .n) (now (part .entry)) (now (part .exit)) ⌝ }
 {
     let wide = (place.n + 63) / 64;
-    let mut table = [0u64; 1024];
+    let mut table = [0u64; 2048];
     file_vertices(&mut table, wide, fs, place.n);
     separate_all(part, place, &table, wide, fs);
 }

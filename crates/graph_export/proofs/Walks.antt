@@ -14,6 +14,7 @@ use Rattle.sets.specs.Sets.{Set}
 use Rattle.sets.proofs.Tests.{and-false}
 use Rattle.vset.specs.Words.{has, Least}
 use Rattle.rows.specs.Rows.{setAt, rowAt}
+use Rattle.sheet_rows.specs.Form.{mostFreqs}
 use Rattle.lines.specs.Lines.{ascii, decimal, line}
 use Rattle.output.specs.Output.{Wrote}
 use Rattle.output.proofs.Wrote.{wrote-none, wrote-then, wrote-same}
@@ -24,28 +25,28 @@ use Rattle.dimacs.proofs.Codes.{code-first, code-second}
 use Rattle.graph_export.specs.Gives.{mostGraph}
 use Rattle.graph_export.specs.Rows.{rowWords, RowsHold, edgeCodesTo, linesTo, EdgesCounted, LinesPut, Puts}
 
--- of at most 512 vertices
-pub square-few : (n : ℕ) → n ≤ 512 → n * n ≤ 262144
+-- of at most 1,024 vertices
+pub square-few : (n : ℕ) → n ≤ mostFreqs → n * n ≤ 1048576
 square-few n h = mul-le-mul h h
 
 -- rows of n codes
 pub row-more : (u n : ℕ) → u * n + n ≡ (u + 1) * n
 row-more u n = sym (rw add-one (mul-comm (suc u) n ∙ mul-suc n u ∙ ap (λ i. i + n) (mul-comm n u)))
 
-pub rows-few : (u n : ℕ) → u ≤ n → n ≤ 512 → u * n ≤ 262144
-rows-few u n h g = let l : u ≤ 512 = omega arith in mul-le-mul l g
+pub rows-few : (u n : ℕ) → u ≤ n → n ≤ mostFreqs → u * n ≤ 1048576
+rows-few u n h g = let l : u ≤ mostFreqs = omega arith in mul-le-mul l g
 
 -- the part of the words that is row u
 pub part-row : (p : List ℕ) (a u : ℕ) → a ≡ 0 + u * rowWords
     → has (take (a + rowWords - a) (drop a p)) ≡ rowAt p rowWords 0 u
 unfolding setAt
-part-row p a u e = let x : a + 8 - a ≡ 8 = omega arith in rw (x, e)
+part-row p a u e = let x : a + 16 - a ≡ 16 = omega arith in rw (x, e)
 
 pub part-length : (p : List ℕ) (a : ℕ) → a + rowWords ≤ length p
     → length (take (a + rowWords - a) (drop a p)) ≡ rowWords
 part-length p a h =
-    let x : a + 8 - a ≡ 8 = omega arith in
-    rw x (length-take 8 (drop a p) ∙ simp length-drop (omega arith))
+    let x : a + 16 - a ≡ 16 = omega arith in
+    rw x (length-take 16 (drop a p) ∙ simp length-drop (omega arith))
 
 -- the next member below a lower bound, or that bound
 pub least-below : {S S′ : Set} {from m n r : ℕ} → S ≡ S′ → Least S from m r → r < n → n ≤ m → Least S′ from n r
@@ -200,7 +201,7 @@ pub first-line : (n m : ℕ) {o u : List ℕ} {at r : ℕ}
 unfolding ascii
 first-line n m w = w
 
-pub graph-put : {n m at r : ℕ} {p o q u : List ℕ} → n ≤ 512 → EdgesCounted n 0 (n * n) p m
+pub graph-put : {n m at r : ℕ} {p o q u : List ℕ} → n ≤ mostFreqs → EdgesCounted n 0 (n * n) p m
     → Wrote (line (ascii "p edge " ++ decimal n) m) o 0 q at → at ≤ 29
     → LinesPut n 0 (n * n) (24 * (n * n)) p q at u r → Puts (graphText n) n mostGraph p o u r
 unfolding graphText edgeCodes select forEach

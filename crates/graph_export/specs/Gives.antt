@@ -20,10 +20,10 @@ exportNumber Short = 15
 
 -- no graph text and no count text is longer
 abbrev pub mostGraph : ℕ
-mostGraph = 10000000
+mostGraph = 30000000
 
 abbrev pub mostCounts : ℕ
-mostCounts = 704
+mostCounts = 1408
 
 -- both texts of a sheet were put, as far as they fit
 pub record BothPut (graphText countsText g g′ c c′ : List ℕ) (r : Lengths) : Type 0 where

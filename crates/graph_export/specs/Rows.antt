@@ -5,13 +5,14 @@ use mathlib.Core.List.{List}
 use Prim.Native.Nat.{ℕ, _+_, _*_, _≤_, _<_}
 use lib.ListN.{length}
 use Rattle.rows.specs.Rows.{rowAt}
+use Rattle.sheet_rows.specs.Form.{mostFreqs}
 use Rattle.output.specs.Output.{Wrote}
 use Rattle.dimacs.specs.Lists.{select, forEach}
 use Rattle.dimacs.specs.Export.{isEdge, edgeText}
 
--- "Sets of vertices are 64-bit words": the words of a row, for form 1's 512 vertices
+-- "Sets of vertices are 64-bit words": the words of a row, for form 3's 1,024 vertices
 abbrev pub rowWords : ℕ
-rowWords = 8
+rowWords = 16
 
 -- row u of the words p has the neighbours of u, for each of n vertices
 pub record RowsHold (adj : ℕ → ℕ → Bool) (n : ℕ) (p : List ℕ) : Type 0 where
@@ -20,7 +21,7 @@ pub record RowsHold (adj : ℕ → ℕ → Bool) (n : ℕ) (p : List ℕ) : Type
 -- n rows lie in `len` words
 pub record RowsIn (n len : ℕ) : Type 0 where
   pub some : 0 < n
-  pub few : n ≤ 512
+  pub few : n ≤ mostFreqs
   pub inside : n * rowWords ≤ len
 
 -- the edges before code z, and their lines

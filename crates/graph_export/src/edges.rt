@@ -11,8 +11,8 @@ pub fn next_neighbour(part: &[u64], n: usize, u: usize, from: usize) -> usize
     requires { ⌜ RowsIn n (length (now part)) × (u < n) × (from ≤ n) ⌝ }
     ensures { λ r. ⌜ Least (rowAt (now (part .entry)) rowWords 0 u) from n r ⌝ }
 {
-    let a = rows::row_at(0, 8, u, n);
-    let e = a + 8;
+    let a = rows::row_at(0, 16, u, n);
+    let e = a + 16;
     let v = next_member(&part[a..e], from);
     if v < n { v } else { n }
 }

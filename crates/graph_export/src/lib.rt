@@ -55,14 +55,14 @@ pub fn export_number(a: ExportAnswer) -> u32
 
 // Puts both texts of an accepted sheet, with room for the graph's rows.
 fn put_both(sheet: &[u8], part: &mut [u64], graph: &mut [u8], counts: &mut [u8]) -> Lengths
-    requires { ⌜ Accepted (now sheet) × (length (now part) ≡ 4096) ⌝ }
+    requires { ⌜ Accepted (now sheet) × (length (now part) ≡ 16384) ⌝ }
     ensures { λ r. ⌜ BothPut (graphTextOf (now (sheet .entry))) (countsTextOf (now (sheet .entry)))
         (now (graph .entry)) (now (graph .exit)) (now (counts .entry)) (now (counts .exit)) r ⌝ }
 {
     let n = freqs_of(sheet);
     let k = links_of(sheet);
     let place = Place {
-        w: 8,
+        w: 16,
         masks: 0,
         graph: 0,
         n,
@@ -83,7 +83,7 @@ fn put_texts(sheet: &[u8], graph: &mut [u8], counts: &mut [u8]) -> Lengths
     ensures { λ r. ⌜ BothPut (graphTextOf (now (sheet .entry))) (countsTextOf (now (sheet .entry)))
         (now (graph .entry)) (now (graph .exit)) (now (counts .entry)) (now (counts .exit)) r ⌝ }
 {
-    let mut part = [0u64; 4096];
+    let mut part = [0u64; 16384];
     put_both(sheet, &mut part, graph, counts)
 }
 

@@ -3,6 +3,7 @@ ghost use mathlib.Core.List.{_++_};
 ghost use Prim.Native.Nat.{_+_, _*_, _≤_, _<_};
 ghost use lib.ListN.{length};
 ghost use Rattle.sets.specs.Below.{tabulate};
+ghost use Rattle.sheet_rows.specs.Form.{mostLinks, mostFreqs};
 ghost use Rattle.sheet_rows.specs.Rows.{HasLinks, linkCount};
 ghost use Rattle.output.specs.Output.{Wrote, mostText};
 ghost use Rattle.lines.specs.Lines.{ascii, decimal, line};
@@ -30,7 +31,7 @@ fn put_numbers(out: &mut [u8], at: usize, word: &[u8], a: u32, b: u32) -> usize
 
 // Puts the `e` line of u and v, which are numbered from 1 in it.
 fn put_edge(out: &mut [u8], at: usize, u: usize, v: usize) -> usize
-    requires { ⌜ (u < 512) × (v < 512) × (at + 24 ≤ mostText) ⌝ }
+    requires { ⌜ (u < mostFreqs) × (v < mostFreqs) × (at + 24 ≤ mostText) ⌝ }
     ensures { λ r. ⌜ Wrote (line (ascii "e " ++ decimal (u + 1)) (v + 1)) (now (out .entry)) at (now (out .exit)) r
         × (r ≤ at + 24) ⌝ }
 {
@@ -88,7 +89,7 @@ fn put_count(out: &mut [u8], at: usize, count: u32) -> usize
 
 // Puts the count text: the counts of k links of the sheet.
 pub fn put_counts(out: &mut [u8], sheet: &[u8], k: usize) -> usize
-    requires { ⌜ HasLinks (now sheet) k × (k ≤ 64) ⌝ }
+    requires { ⌜ HasLinks (now sheet) k × (k ≤ mostLinks) ⌝ }
     ensures { λ r. ⌜ Wrote (countsText (tabulate k (linkCount (now (sheet .entry)))))
         (now (out .entry)) 0 (now (out .exit)) r × (r ≤ mostCounts) ⌝ }
 {

@@ -55,9 +55,9 @@ pub fn put_fours(from: &[u32], to: &mut [u8])
 pub fn put_eights(from: &[u64], to: &mut [u8])
     ensures { λ _. ⌜ now (to .exit) ≡ numberBytes 8 (now (from .entry)) (length (now (to .entry))) ⌝ }
 {
-    let mut i = 0;
-    while i < to.len() {
-        to[i] = byte_of_eights(from, i);
-        i += 1;
+    let mut at = 0;
+    while at < to.len() {
+        to[at] = byte_of_eights(from, at);
+        at += 1;
     }
 }

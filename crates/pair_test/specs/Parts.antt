@@ -10,7 +10,7 @@ use Rattle.rule_sections.specs.Rules.{rulesOk, pairsOk}
 use Rattle.sheet.specs.Sheet.{linksOk, widthsOk, freqsOk}
 
 pub record Parts (s fs rs ps : List ℕ) (k n q t : ℕ) : Type 0 where
-  -- "k is 1 to 64, n 1 to 512"
+  -- k and n are at least 1, and at most what every form keeps to
   pub k-some : 0 < k
   pub k-small : k ≤ mostLinks
   pub n-some : 0 < n

@@ -9,7 +9,7 @@ fn print(sheet: &[u8], text: &mut [u8]) {
     io::write_all(STDOUT_FILENO, &text[..m]);
 }
 
-// No sheet has more than 59,560 bytes: what follows 65,536 changes nothing (`same-text` in the crate text).
+// No sheet has more than 62,120 bytes: what follows 65,536 changes nothing (`same-text` in the crate text).
 fn main() {
     let mut sheet = [0u8; 65536];
     let mut text = [0u8; 2048];

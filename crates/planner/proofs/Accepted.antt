@@ -19,7 +19,7 @@ pub record Call (job : Job) (x : Setting) (m w : ℕ) : Type 0 where
   pub sheet : refusal (job .sheet) ≡ 0
   pub setting : settingOk x ≡ true
   pub cells : kOf (job .sheet) ≤ m
-  pub work : workWords ≤ w
+  pub work : workWords (job .sheet) ≤ w
   pub channels : channelsOk (job .channels) ≡ true
   pub list : listOk job x ≡ true
 
@@ -29,13 +29,13 @@ call-accepted job x m w e =
     let a = first-cause (eqb (refusal (job .sheet)) 0) refl e in
     let b = passed (settingOk x) 9 _ (lit< tt) (a .1) in
     let c = passed (leb (kOf (job .sheet)) m) 10 _ (lit< tt) (b .1) in
-    let d = passed (leb workWords w) 11 _ (lit< tt) (c .1) in
+    let d = passed (leb (workWords (job .sheet)) w) 11 _ (lit< tt) (c .1) in
     let f = passed (channelsOk (job .channels)) 17 _ (lit< tt) (d .1) in
     record {
       sheet = a .0;
       setting = b .0;
       cells = leb-true (kOf (job .sheet)) m (c .0);
-      work = leb-true workWords w (d .0);
+      work = leb-true (workWords (job .sheet)) w (d .0);
       channels = f .0;
       list = unless-zero (listOk job x) 12 (lit< tt) (f .1);
     }

@@ -25,7 +25,7 @@ module _ (job : Job) (x : Setting) (m w : ℕ) where
       passing-most (eqb (refusal (job .sheet)) 0) (refusal (job .sheet)) 17 _ (omega arith)
       (passing-most (settingOk x) 9 17 _ (omega arith)
       (passing-most (leb (kOf (job .sheet)) m) 10 17 _ (omega arith)
-      (passing-most (leb workWords w) 11 17 _ (omega arith)
+      (passing-most (leb (workWords (job .sheet)) w) 11 17 _ (omega arith)
       (passing-most (channelsOk (job .channels)) 17 17 _ (omega arith)
       (unless-most (listOk job x) 12 17 (omega arith))))))
 

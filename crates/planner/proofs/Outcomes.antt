@@ -50,21 +50,23 @@ module _ (job : Job) (x : Setting) (m w : ℕ) where
   unfolding settingCause
   cause-10 e f g = setting-cause e ∙ rw (f, lt-leb (kOf (job .sheet)) m g) refl
 
-  pub cause-11 : refusal (job .sheet) ≡ 0 → settingOk x ≡ true → kOf (job .sheet) ≤ m → w < workWords
+  pub cause-11 : refusal (job .sheet) ≡ 0 → settingOk x ≡ true → kOf (job .sheet) ≤ m → w < workWords (job .sheet)
       → callRefusal job x m w ≡ 11
   unfolding settingCause
-  cause-11 e f g h = setting-cause e ∙ rw (f, le-leb (kOf (job .sheet)) m g, lt-leb workWords w h) refl
+  cause-11 e f g h = setting-cause e ∙ rw (f, le-leb (kOf (job .sheet)) m g, lt-leb (workWords (job .sheet)) w h) refl
 
-  pub cause-17 : refusal (job .sheet) ≡ 0 → settingOk x ≡ true → kOf (job .sheet) ≤ m → workWords ≤ w
+  pub cause-17 : refusal (job .sheet) ≡ 0 → settingOk x ≡ true → kOf (job .sheet) ≤ m → workWords (job .sheet) ≤ w
       → channelsOk (job .channels) ≡ false → callRefusal job x m w ≡ 17
   unfolding settingCause
-  cause-17 e f g h c = setting-cause e ∙ rw (f, le-leb (kOf (job .sheet)) m g, le-leb workWords w h, c) refl
+  cause-17 e f g h c = setting-cause e
+      ∙ rw (f, le-leb (kOf (job .sheet)) m g, le-leb (workWords (job .sheet)) w h, c) refl
 
   -- past cause 17 the caller's list decides
-  pub cause-12 : refusal (job .sheet) ≡ 0 → settingOk x ≡ true → kOf (job .sheet) ≤ m → workWords ≤ w
+  pub cause-12 : refusal (job .sheet) ≡ 0 → settingOk x ≡ true → kOf (job .sheet) ≤ m → workWords (job .sheet) ≤ w
       → channelsOk (job .channels) ≡ true → callRefusal job x m w ≡ unless (listOk job x) 12
   unfolding settingCause
-  cause-12 e f g h c = setting-cause e ∙ rw (f, le-leb (kOf (job .sheet)) m g, le-leb workWords w h, c) refl
+  cause-12 e f g h c = setting-cause e
+      ∙ rw (f, le-leb (kOf (job .sheet)) m g, le-leb (workWords (job .sheet)) w h, c) refl
 
   pub outcome-refused : (callRefusal job x m w ≡ 0 → ⊥) → outcome job x m w ≡ refused (callRefusal job x m w) m
   unfolding outcome

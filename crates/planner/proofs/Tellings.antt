@@ -15,6 +15,7 @@ use Rattle.cliques.specs.Graph.{Clique}
 use Rattle.cliques.specs.Words.{withMasks, threeRows, Room}
 use Rattle.cliques.specs.declared.Place.{Place}
 use Rattle.cliques.proofs.Listing.{clique-any, by-layer-hit, by-layer-same}
+use Rattle.sheet_rows.specs.Form.{mostFreqs}
 use Rattle.sheet_rows.specs.Rows.{freq}
 use Rattle.sheet.specs.Sheet.{kOf, freqPart}
 use Rattle.sheet.specs.Accepted.{Accepted}
@@ -157,7 +158,8 @@ list-gives {job} {x} {w = w} {cells = cells} {r} R F e v =
     (lit< tt) refl v (R .zero)
 
 -- the room of the search, in words whose number has stayed
-pub search-room : {place : Place} {layers len : ℕ} → LaidOut place layers len → place .n ≤ 512 → (limit len′ cells : ℕ)
+pub search-room : {place : Place} {layers len : ℕ} → LaidOut place layers len → place .n ≤ mostFreqs
+    → (limit len′ cells : ℕ)
     → len′ ≡ len
     → cells ≡ place .k → Space place 0 0 limit len′ cells × Room (threeRows place) (withMasks place layers) len′
 search-room {place} {layers} O small limit len′ cells e c =

@@ -17,13 +17,13 @@ use Rattle.setting.specs.Setting.{Setting, settingOk}
 use Rattle.work_words.specs.Layout.{workWords}
 use Rattle.work_words.specs.Classes.{listOk, graphIn}
 
--- the table's causes 9 to 12 in the order tested, 17 "after 11, before 12", for a call with m plan cells and w work
--- words
+-- the table's causes 9 to 12 in the order tested, 11 by the sheet's form, 17 "after 11, before 12", for a call with m
+-- plan cells and w work words
 unfoldable pub settingCause : Job → Setting → ℕ → ℕ → ℕ
 settingCause job x m w =
     passing (settingOk x) 9 λ _.
     passing (leb (kOf (job .sheet)) m) 10 λ _.
-    passing (leb workWords w) 11 λ _.
+    passing (leb (workWords (job .sheet)) w) 11 λ _.
     passing (channelsOk (job .channels)) 17 λ _.
     unless (listOk job x) 12
 

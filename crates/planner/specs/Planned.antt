@@ -64,7 +64,7 @@ gave r cells = record { answer = verdictNumber (r .verdict); nodes = r .nodes; c
 pub record Passed (job : Job) (x : Setting) (w : ℕ) : Type 0 where
   pub sheet : refusal (job .sheet) ≡ 0
   pub setting : settingOk x ≡ true
-  pub words : workWords ≤ w
+  pub words : workWords (job .sheet) ≤ w
   pub channels : channelsOk (job .channels) ≡ true
 
 -- what those causes say of a call with m plan cells and w work words, whatever the caller's list and whether or not

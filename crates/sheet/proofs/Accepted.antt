@@ -16,7 +16,7 @@ use Rattle.sheet_rows.proofs.Rows.{form-small}
 use Rattle.rule_sections.specs.Rules.{mostRules, mostPairs, rulesOk, pairsOk}
 use Rattle.sheet.specs.Sheet.{kOf, nOf, qOf, tOf, endAt}
 use Rattle.sheet.specs.Sheet.{freqPart, rulePart, pairPart, linksOk, widthsOk, freqsOk}
-use Rattle.sheet.specs.Refusal.{formOk, linkCountOk, countsOk, tableOk, offsetsOk, sectionCause, refusal}
+use Rattle.sheet.specs.Refusal.{formOk, linkCountOk, countsOk, tableOk, offsetsOk, unless, sectionCause, refusal}
 use Rattle.sheet.specs.Accepted.{Head, Accepted}
 use Rattle.sheet.proofs.Causes.{unless-zero, passed, passing-most, unless-most}
 
@@ -85,3 +85,11 @@ refusal-most s =
     (passing-most (linkCountOk s) 2 16 _ (omega arith)
     (passing-most (countsOk s) 3 16 _ (omega arith)
     (passing-most (offsetsOk s) 4 16 _ (omega arith) (section-most s))))
+
+-- a sheet whose tests hold is accepted
+pub no-cause : (s : List ℕ) → formOk s ≡ true → linkCountOk s ≡ true → countsOk s ≡ true → offsetsOk s ≡ true
+    → linksOk s (kOf s) (nOf s) ≡ true → widthsOk s (kOf s) ≡ true → freqsOk s (freqPart s) (kOf s) ≡ true
+    → rulesOk (rulePart s) (kOf s) (qOf s) (tOf s) ≡ true
+    → pairsOk s (rulePart s) (pairPart s) (qOf s) ≡ true → refusal s ≡ 0
+unfolding refusal sectionCause unless
+no-cause s a b c d e w f g h = rw (a, b, c, d, e, w, f, g, h)

@@ -12,7 +12,8 @@ use Rattle.sheet.specs.Sheet.{freqPart, rulePart, pairPart, linksOk, wid
 
 -- what the header's four tests say
 pub record Head (s : List ℕ) : Type 0 where
-  -- "k is 1 to 64, n 1 to 512, q at most 2,016, t at most 8,192": k and n by the form, and by what every form keeps to
+  -- k and n are at least 1, and at most what the form allows, and what every form keeps to; "q at most 2,016, t at most
+  -- 8,192"
   pub k-some : 0 < kOf s
   pub k-few : kOf s ≤ formOf s .links
   pub k-small : kOf s ≤ mostLinks

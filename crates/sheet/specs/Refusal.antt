@@ -33,15 +33,15 @@ abbrev pub numberOf : Reading → ℕ
 numberOf Fine = 0
 numberOf (Refused cause) = causeNumber cause
 
--- 1: "under 40 bytes or a form other than 1 or 2"
+-- 1: "under 40 bytes", or a form that there is not
 unfoldable pub formOk : List ℕ → Bool
 formOk s = leb headerBytes (length s) && formOf s .known
 
--- 2: "k = 0 or above 64", the form's limit
+-- 2: "k = 0", or above the form's limit
 unfoldable pub linkCountOk : List ℕ → Bool
 linkCountOk s = ltb 0 (kOf s) && leb (kOf s) (formOf s .links)
 
--- 3: "n, q or t beyond its limit"
+-- 3: "n, q or t beyond its limit", that of n by the form
 unfoldable pub countsOk : List ℕ → Bool
 countsOk s = ltb 0 (nOf s) && leb (nOf s) (formOf s .freqs) && leb (qOf s) mostRules && leb (tOf s) mostPairs
 

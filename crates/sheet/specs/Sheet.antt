@@ -1,6 +1,6 @@
--- The job sheet, as a list of bytes: its header, where its sections begin, and what link and frequency rows have to say.
--- The rows' fields are those of `Rows`, and what goes by the form is in `Form`, crate `sheet_rows`; rule and pair rows are
--- in `Rules`, crate `rule_sections`.
+-- The job sheet, as a list of bytes: its header, where its sections begin, and what link and frequency rows have to
+-- say. The rows' fields are those of `Rows`, and what goes by the form is in `Form`, crate `sheet_rows`; rule and pair
+-- rows are in `Rules`, crate `rule_sections`.
 use Prim.Native.Nat.{ℕ, _+_, _-_, _*_}
 use mathlib.Core.List.{List}
 use mathlib.Core.Bool.{Bool, not, _&&_, _||_}

@@ -11,11 +11,21 @@ use wire::word;
 fn form_by(number: usize) -> Form
     ensures { λ r. ⌜ r ≡ formBy number ⌝ }
 {
+    if number == 3 {
+        return Form {
+            known: true,
+            bytes: 8,
+            links: 128,
+            freqs: 1024,
+            words: 32768,
+        };
+    }
     Form {
         known: (number == 1) | (number == 2),
         bytes: if number == 2 { 8 } else { 4 },
         links: 64,
         freqs: 512,
+        words: 8192,
     }
 }
 

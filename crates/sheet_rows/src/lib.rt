@@ -19,12 +19,14 @@ pub use links::row_width;
 use wire::half;
 use wire::word;
 
-// What a form of sheet has: whether there is one, the bytes of a link row, and the most links and frequencies.
+// What a form of sheet has: whether there is one, the bytes of a link row, the most links and frequencies, and the work
+// words that planning needs.
 pub struct Form {
     pub known: bool,
     pub bytes: usize,
     pub links: usize,
     pub freqs: usize,
+    pub words: usize,
 }
 
 // The v-th frequency.

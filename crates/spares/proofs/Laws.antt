@@ -15,6 +15,7 @@ use borrow.Author.Tests.{eqb-true, eqb-false, ltb-true, leb-true, eq-eqb, ne-eqb
 use Rattle.sets.specs.Below.{all}
 use Rattle.sets.proofs.Tests.{bool, clash, below, and-l}
 use Rattle.sets.proofs.Below.{all-same}
+use Rattle.sheet_rows.specs.Form.{mostLinks}
 use Rattle.sheet.specs.Sheet.{kOf, freqPart}
 use Rattle.sheet.specs.Refusal.{causeNumber, numberOf, passing, refusal}
 use Rattle.sheet.specs.declared.Cause.{Cause}
@@ -34,7 +35,7 @@ use Rattle.spares.specs.Table.{spareOf, spareAt, Tabled}
 use Rattle.spares.specs.Spares.{answerFor, judged, shown, placeLeft}
 
 -- k × k places
-pub few-places : (k : ℕ) → k ≤ 64 → k * k ≤ 4096
+pub few-places : (k : ℕ) → k ≤ mostLinks → k * k ≤ 16384
 few-places k h = mul-le-mul h h
 
 -- the answer
@@ -172,7 +173,7 @@ unfolding inLists
 listed-first-k s c d h = all-same (kOf s) _ _ (λ l i. ap (hasFreq s (freqPart s) l) (h l i))
 
 -- no place past the 4,096th is anything but zero
-pub left-past : (job : Job) (cells : List ℕ) (room i : ℕ) → 4096 ≤ i → placeLeft job cells room i ≡ pos 0
+pub left-past : (job : Job) (cells : List ℕ) (room i : ℕ) → 16384 ≤ i → placeLeft job cells room i ≡ pos 0
 left-past job cells room i h = bool (shown job cells room)
     (λ e.
     let o = judged-checked job cells room (shown-judged job cells room e) in

@@ -1,5 +1,5 @@
--- A library lent 64 cells and 4,096 places gives the caller what one lent more gives: a sheet has at most 64 links, and
--- the places past the table are zero.
+-- A library lent 128 cells and 16,384 places gives the caller what one lent more gives: a sheet has at most 128 links,
+-- and the places past the table are zero.
 use mathlib.Core.Path.{_≡_, refl, sym, ap, _∙_}
 use mathlib.Core.Bool.{Bool, true, false}
 use mathlib.Core.List.{List}
@@ -32,7 +32,7 @@ lesser-le x m most r e h l = bool (ltb m most)
     (λ q. let f : r ≡ m = e ∙ min-eq-left (omega (arith, ltb-true m most q)) in omega arith)
     (λ q. let f : r ≡ most = e ∙ min-comm m most ∙ min-eq-left (ltb-false m most q) in omega arith)
 
-module _ (job : Job) (g : ℕ → ℕ) (m r places room : ℕ) (cells : r ≡ min m 64) (lent : room ≡ min places 4096) where
+module _ (job : Job) (g : ℕ → ℕ) (m r places room : ℕ) (cells : r ≡ min m 128) (lent : room ≡ min places 16384) where
   pub answer-lent : answerFor job (tabulate r g) room ≡ answerFor job (tabulate m g) places
   unfolding answerFor
   answer-lent = go (eqb (refusal (job .sheet)) 0) refl
@@ -46,7 +46,7 @@ module _ (job : Job) (g : ℕ → ℕ) (m r places room : ℕ) (cells : r ≡ mi
       go true q =
           let k = accepted (job .sheet) (eqb-true (refusal (job .sheet)) 0 q) .head .k-small in
           rw (
-            lesser (kOf (job .sheet) * kOf (job .sheet)) places 4096 room lent (few-places (kOf (job .sheet)) k),
+            lesser (kOf (job .sheet) * kOf (job .sheet)) places 16384 room lent (few-places (kOf (job .sheet)) k),
             lent-checked job g m r cells,
           )
       go false q = refl
@@ -58,7 +58,7 @@ module _ (job : Job) (g : ℕ → ℕ) (m r places room : ℕ) (cells : r ≡ mi
         let o = judged-checked job (tabulate m g) places J in
         let k = accepted (job .sheet) (o .0) .head .k-small in
         let e : kOf (job .sheet) ≤ m = rw (length-tabulate m g) at (o .1) in
-        let d = lesser-le (kOf (job .sheet)) m 64 r cells k e in
+        let d = lesser-le (kOf (job .sheet)) m 128 r cells k e in
         getD-tabulate r g l 0 (omega arith) ∙ sym (getD-tabulate m g l 0 (omega arith))
 
     left-same : (i : ℕ) → placeLeft job (tabulate r g) room i ≡ placeLeft job (tabulate m g) places i
@@ -78,17 +78,17 @@ module _ (job : Job) (g : ℕ → ℕ) (m r places room : ℕ) (cells : r ≡ mi
   -- a place of the table, whether lent or past what is lent
   place-lent : (i : ℕ) → getD (tableBits job (tabulate r g) room) i 0 ≡ getD (tableBits job (tabulate m g) places) i 0
   unfolding tableBits bits32
-  place-lent i = bool (ltb places 4096)
+  place-lent i = bool (ltb places 16384)
       (λ q.
-      let e : room ≡ places = lent ∙ min-eq-left (omega (arith, ltb-true places 4096 q)) in
+      let e : room ≡ places = lent ∙ min-eq-left (omega (arith, ltb-true places 16384 q)) in
       ap (λ (t : List ℕ). getD t i 0) (tabulate-same room _ (λ i. bits32 (placeLeft job (tabulate m g) places i))
       (λ j l. ap bits32 (left-lent j)) ∙ ap (λ y. tabulate y (λ i. bits32 (placeLeft job (tabulate m g) places i))) e))
       (λ q.
-      let l = ltb-false places 4096 q in
-      let e : room ≡ 4096 = lent ∙ min-comm places 4096 ∙ min-eq-left l in
-      getD-tabled room 4096 _ (omega arith) (λ j h. ap bits32 (left-past job (tabulate r g) room j h)) i
+      let l = ltb-false places 16384 q in
+      let e : room ≡ 16384 = lent ∙ min-comm places 16384 ∙ min-eq-left l in
+      getD-tabled room 16384 _ (omega arith) (λ j h. ap bits32 (left-past job (tabulate r g) room j h)) i
       ∙ ap bits32 (left-lent i)
-      ∙ sym (getD-tabled places 4096 _ l (λ j h. ap bits32 (left-past job (tabulate m g) places j h)) i))
+      ∙ sym (getD-tabled places 16384 _ l (λ j h. ap bits32 (left-past job (tabulate m g) places j h)) i))
 
   pub bytes-lent : (n : ℕ) → cellBytes (tableBits job (tabulate r g) room) n
       ≡ cellBytes (tableBits job (tabulate m g) places) n

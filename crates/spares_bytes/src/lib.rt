@@ -38,12 +38,12 @@ fn get_bits(from: &[i32], to: &mut [u32])
     }
 }
 
-// The places that the library is lent: no sheet has more than 64 links.
+// The places that the library is lent: no sheet has more than 128 links.
 fn places(bytes: usize) -> usize
-    ensures { λ r. ⌜ (r ≡ min (bytes / 4) 4096) × (r ≤ 4096) ⌝ }
+    ensures { λ r. ⌜ (r ≡ min (bytes / 4) 16384) × (r ≤ 16384) ⌝ }
 {
     let m = bytes / 4;
-    if m < 4096 { m } else { 4096 }
+    if m < 16384 { m } else { 16384 }
 }
 
 // The spares of the first cells in some bytes, as many as are lent, in the table and bits lent, and as bytes.
@@ -75,10 +75,10 @@ pub fn spares_bytes(sheet: &[u8], channels: &[u8], from: &[u8], to: &mut [u8]) -
     ensures { λ r. ⌜ SparesHanded (jobWith (now (sheet .entry)) (now (channels .entry))) (cellsIn (now (from .entry)))
         (length (now (to .entry))) r (now (to .exit)) ⌝ }
 {
-    let mut cells = [0u32; 64];
-    let mut table = [0i32; 4096];
-    let mut bits = [0u32; 4096];
-    let m = lent(from.len());
+    let mut cells = [0u32; 128];
+    let mut table = [0i32; 16384];
+    let mut bits = [0u32; 16384];
+    let m = lent(from.len(), 128);
     let n = places(to.len());
     spares_into(
         sheet,

@@ -1,4 +1,4 @@
--- A sheet has at most 59,560 bytes. What follows in a longer one changes nothing: it is refused by its header or its
+-- A sheet has at most 62,120 bytes. What follows in a longer one changes nothing: it is refused by its header or its
 -- length, so the program may read it in part.
 use mathlib.Core.Path.{_≡_, refl, sym, ap, _∙_}
 use mathlib.Core.Bool.{Bool, true, false, _&&_}
@@ -9,18 +9,19 @@ use lib.Dec.{ltb, leb}
 use lib.ListN.{length, take, getD}
 use lib.Seq.{getD-take, length-take-le}
 use borrow.Author.Tests.{ne-eqb, leb-true, le-leb}
-use Rattle.sets.proofs.Tests.{and-l, and-r}
+use Rattle.sets.proofs.Tests.{bool, and-l, and-r}
 use Rattle.wire.specs.Fields.{le32}
-use Rattle.sheet_rows.specs.Form.{formOf, mostLinks}
+use Rattle.sheet_rows.specs.Form.{formOf, hallLinks, hallWords}
 use Rattle.sheet_rows.specs.Rows.{headerBytes, linkBytes}
 use Rattle.sheet_rows.proofs.Rows.{form-small, rows-small}
 use Rattle.rule_sections.specs.Rules.{mostRules, mostPairs}
 use Rattle.sheet.specs.Sheet.{kOf, nOf, qOf, tOf, endAt}
 use Rattle.sheet.specs.Refusal.{formOk, linkCountOk, countsOk, tableOk, offsetsOk, passing, sectionCause, refusal}
 use Rattle.rules.specs.Job.{jobOf}
-use Rattle.work_words.specs.Layout.{workWords}
-use Rattle.planner.specs.Outcome.{outcome, refused}
+use Rattle.planner.specs.Outcome.{Outcome, refused}
 use Rattle.planner.proofs.Outcomes.{sheet-cause, outcome-refused}
+use Rattle.hall_plan.specs.Hall.{isFestival, hallOutcome}
+use Rattle.hall_plan.proofs.Hall.{hall-refused, hall-planned}
 use Rattle.text.specs.Text.{programSetting, printedOf, printed}
 use Rattle.text.proofs.Answers.{printed-any}
 
@@ -39,7 +40,7 @@ front-some s = go (formOf s .known) (linkCountOk s) (countsOk s)
     go true false c = (omega arith, omega arith)
     go false b c = (omega arith, omega arith)
 
-module _ (s : List ℕ) (long : 59560 < length s) where
+module _ (s : List ℕ) (long : 62120 < length s) where
   past-end : linkCountOk s ≡ true → countsOk s ≡ true → offsetsOk s ≡ false
   unfolding linkCountOk countsOk offsetsOk
   past-end h g =
@@ -76,14 +77,16 @@ module _ (s : List ℕ) (long : 59560 < length s) where
   front-more : front s ≡ 0 → ⊥
   front-more e = absurd (omega (arith, front-some s .0))
 
-  too-long : outcome (jobOf s) programSetting mostLinks workWords ≡ refused (front s) mostLinks
-  too-long =
-      let at = sheet-cause (jobOf s) programSetting mostLinks workWords in
+  too-long : isFestival s ≡ false
+      → hallOutcome (jobOf s) programSetting hallLinks hallWords ≡ refused (front s) hallLinks
+  too-long hall =
+      let at = sheet-cause (jobOf s) programSetting hallLinks hallWords in
       let e = at (λ q. front-more (sym by-header ∙ q)) ∙ by-header in
-      outcome-refused (jobOf s) programSetting mostLinks workWords (λ q. front-more (sym e ∙ q))
-      ∙ ap (λ r. refused r mostLinks) e
+      hall-planned (jobOf s) programSetting hallLinks hallWords hall
+      ∙ outcome-refused (jobOf s) programSetting hallLinks hallWords (λ q. front-more (sym e ∙ q))
+      ∙ ap (λ r. refused r hallLinks) e
 
-module _ (s : List ℕ) (m : ℕ) (long : 59560 < m) (within : m ≤ length s) where
+module _ (s : List ℕ) (m : ℕ) (long : 62120 < m) (within : m ≤ length s) where
   same-byte : (i : ℕ) → i ≤ 19 → getD (take m s) i 0 ≡ getD s i 0
   same-byte i h = getD-take m s i 0 (omega arith)
 
@@ -95,6 +98,9 @@ module _ (s : List ℕ) (m : ℕ) (long : 59560 < m) (within : m ≤ length s) w
       let d = same-byte (i + 3) (omega arith) in
       rw (a, b, c, d) refl
 
+  head-length : length (take m s) ≡ m
+  head-length = length-take-le m s within
+
   same-front : front (take m s) ≡ front s
   unfolding front linkCountOk countsOk
   same-front =
@@ -104,15 +110,30 @@ module _ (s : List ℕ) (m : ℕ) (long : 59560 < m) (within : m ≤ length s) w
       let t = field 16 (omega arith) in
       rw (field 0 (omega arith), k, n, q, t) refl
 
+  same-kind : isFestival (take m s) ≡ isFestival s
+  unfolding isFestival formOk linkCountOk
+  same-kind =
+      let a = le-leb headerBytes (length (take m s)) (omega (arith, head-length)) in
+      let b = le-leb headerBytes (length s) (omega arith) in
+      rw (a, b, field 0 (omega arith), field 4 (omega arith)) refl
+
   -- the first m bytes give the text of the whole
   pub same-text : printed (take m s) ≡ printed s
   unfolding printed
-  same-text =
-      let l = length-take-le m s within in
-      let k = kOf (take m s) in
-      ap (λ o. printedOf k o) (too-long (take m s) (omega arith) ∙ ap (λ r. refused r mostLinks) same-front)
-      ∙ printed-any (refused (front s) mostLinks) k (kOf s) (λ e. few (front-some s .1) e)
-      ∙ ap (λ o. printedOf (kOf s) o) (sym (too-long s (omega arith)))
+  same-text = bool (isFestival s)
+      (λ y. alike (λ t. hallOutcome (jobOf t) programSetting hallLinks hallWords) (refused 3 hallLinks)
+      (hall-refused (jobOf (take m s)) programSetting hallLinks hallWords (same-kind ∙ y))
+      (hall-refused (jobOf s) programSetting hallLinks hallWords y) (λ e. absurd (omega arith)))
+      (λ n. alike (λ t. hallOutcome (jobOf t) programSetting hallLinks hallWords) (refused (front s) hallLinks)
+      (too-long (take m s) (omega (arith, head-length)) (same-kind ∙ n) ∙ ap (λ r. refused r hallLinks) same-front)
+      (too-long s (omega arith) n) (λ e. few (front-some s .1) e))
     where
       few : front s ≤ 4 → front s ≡ 100 → ⊥
       few h e = absurd (omega arith)
+
+      -- two sheets with the same outcome, which is no plan that was found
+      alike : (f : List ℕ → Outcome) (o : Outcome) → f (take m s) ≡ o → f s ≡ o → (o .answer ≡ 100 → ⊥)
+          → printedOf (kOf (take m s)) (f (take m s)) ≡ printedOf (kOf s) (f s)
+      alike f o a b no-plan =
+          ap (λ p. printedOf (kOf (take m s)) p) a ∙ printed-any o (kOf (take m s)) (kOf s) no-plan
+          ∙ ap (λ p. printedOf (kOf s) p) (sym b)

@@ -5,12 +5,12 @@ use Prim.Native.Nat.{ℕ}
 use lib.Dec.{eqb}
 use lib.ListN.{getD}
 use Rattle.sets.specs.Below.{loop}
-use Rattle.sheet_rows.specs.Form.{mostLinks}
+use Rattle.sheet_rows.specs.Form.{hallLinks, hallWords}
 use Rattle.sheet.specs.Sheet.{kOf}
 use Rattle.rules.specs.Job.{jobOf}
 use Rattle.setting.specs.Setting.{Setting}
-use Rattle.work_words.specs.Layout.{workWords}
-use Rattle.planner.specs.Outcome.{Outcome, outcome}
+use Rattle.planner.specs.Outcome.{Outcome}
+use Rattle.hall_plan.specs.Hall.{hallOutcome}
 -- who computes a text opens these too
 unfoldable pub use Rattle.lines.specs.Lines.{ascii, digits, decimal, ending, line}
 
@@ -39,6 +39,6 @@ printedOf k o = elim (eqb (o .answer) 100) [
 abbrev pub programSetting : Setting
 programSetting = record { filter = 7; choice = 0; limit = 1000000; callers = []; counts = false }
 
--- with a plan cell for each of the most links, and as many work words as are needed
+-- with the plan cells and the work words of a hall
 unfoldable pub printed : List ℕ → List ℕ
-printed s = printedOf (kOf s) (outcome (jobOf s) programSetting mostLinks workWords)
+printed s = printedOf (kOf s) (hallOutcome (jobOf s) programSetting hallLinks hallWords)

@@ -5,25 +5,27 @@ mod link_lines;
 ghost use mathlib.Core.Path.{_≡_};
 ghost use Prim.Native.Nat.{_≤_};
 ghost use lib.ListN.{length};
+ghost use Rattle.sheet_rows.specs.Form.{hallLinks};
 ghost use Rattle.sheet.specs.Sheet.{kOf};
 ghost use Rattle.sheet.specs.Refusal.{refusal};
 ghost use Rattle.rules.specs.Job.{jobOf};
-ghost use Rattle.planner.specs.Outcome.{outcome};
 ghost use Rattle.planner.specs.Planned.{verdictNumber, gave};
+ghost use Rattle.hall_plan.specs.Hall.{hallOutcome};
 ghost use Rattle.text.specs.Text.{programSetting, printedOf};
 ghost use Rattle.text.specs.Written.{Holds, mostBytes, printedIn};
+use hall_plan::plan_hall;
 use lines::put_line;
 use link_lines::put_link_lines;
 use planner::Planned;
-use planner::plan;
 use planner::verdict_number;
 use setting::Options;
 use sheet::links_of;
 
-// An answer as text. A plan is found only for a sheet that was accepted, with a cell for each link.
+// An answer as text. A plan is found only for a sheet that was accepted, with a cell for each link and no more links
+// than a hall has.
 fn put_answer(p: Planned, sheet: &[u8], cells: &[u32], text: &mut [u8]) -> usize
     requires { ⌜ (mostBytes ≤ length (now text)) × (verdictNumber (p .verdict) ≡ 100
-        → (refusal (now sheet) ≡ 0) × (kOf (now sheet) ≤ length (now cells))) ⌝ }
+        → (refusal (now sheet) ≡ 0) × (kOf (now sheet) ≤ length (now cells)) × (kOf (now sheet) ≤ hallLinks)) ⌝ }
     ensures { λ r. ⌜ Holds (printedOf (kOf (now (sheet .entry))) (gave p (now (cells .entry))))
         (now (text .entry)) (now (text .exit)) r ⌝ }
 {
@@ -47,15 +49,16 @@ fn put_answer(p: Planned, sheet: &[u8], cells: &[u32], text: &mut [u8]) -> usize
 // Plans a sheet in the cells and words lent, with no list of channels, and puts the answer.
 fn put_planned(sheet: &[u8], cells: &mut [u32], work: &mut [u64], text: &mut [u8]) -> usize
     requires { ⌜ mostBytes ≤ length (now text) ⌝ }
-    ensures { λ r. ⌜ Holds (printedOf (kOf (now (sheet .entry))) (outcome (jobOf (now (sheet .entry))) programSetting
-        (length (now (cells .entry))) (length (now (work .entry))))) (now (text .entry)) (now (text .exit)) r ⌝ }
+    ensures { λ r. ⌜ Holds (printedOf (kOf (now (sheet .entry)))
+        (hallOutcome (jobOf (now (sheet .entry))) programSetting (length (now (cells .entry)))
+        (length (now (work .entry))))) (now (text .entry)) (now (text .exit)) r ⌝ }
 {
     let options = Options {
         filter: 7,
         choice: 0,
         limit: 1000000,
     };
-    let p = plan(sheet, b"", options, b"", cells, work);
+    let p = plan_hall(sheet, b"", options, b"", cells, work);
     put_answer(p, sheet, cells, text)
 }
 

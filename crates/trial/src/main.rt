@@ -17,6 +17,7 @@ use trial_parts::kept::AT;
 use trial_parts::kept::CALLS;
 use trial_parts::kept::CHECKS;
 use trial_parts::kept::EMPTIED;
+use trial_parts::kept::FESTIVALS;
 use trial_parts::kept::LAYERED;
 use trial_parts::kept::LIST;
 use trial_parts::kept::LISTED;
@@ -81,6 +82,7 @@ fn random_row(kept: &mut [usize], m: usize) -> bool {
     print_small(&counted);
     print_trees(&counted);
     put(kept, CALLS, get(&counted, CALLS));
+    put(kept, FESTIVALS, get(&counted, FESTIVALS));
     put(kept, CHECKS, get(&counted, CHECKS));
     put(kept, SPARES, get(&counted, SPARES));
     true
@@ -98,15 +100,16 @@ fn print_part(words: &[u8], from: usize, end: usize) {
 
 fn print_calls(kept: &[usize]) {
     item(b"; calls of planning:", get(kept, CALLS));
+    print_some(b", of these again with form 3:", get(kept, FESTIVALS));
     item(b", of the check:", get(kept, CHECKS));
     item(b", for the spares:", get(kept, SPARES));
-    print_heaviest(get(kept, HEAVIEST));
+    print_some(b", for heaviest jobs:", get(kept, HEAVIEST));
     text(b"\n");
 }
 
-fn print_heaviest(m: usize) {
+fn print_some(words: &[u8], m: usize) {
     if m != 0 {
-        item(b", for heaviest jobs:", m);
+        item(words, m);
     }
 }
 
@@ -116,6 +119,7 @@ fn print_line(words: &[u8], kept: &mut [usize]) {
     print_part(words, from, line_end(words, from));
     print_calls(kept);
     put(kept, CALLS, 0);
+    put(kept, FESTIVALS, 0);
     put(kept, CHECKS, 0);
     put(kept, SPARES, 0);
     put(kept, HEAVIEST, 0);
@@ -184,7 +188,7 @@ fn run(words: &[u8], kept: &mut [usize]) {
 }
 
 fn main() {
-    let mut words = [0u8; 65536];
+    let mut words = [0u8; 98304];
     let mut kept = [0usize; ROOM];
     let n = io::read_full(STDIN_FILENO, &mut words);
     run(first_bytes(&words, n), &mut kept);

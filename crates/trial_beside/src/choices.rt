@@ -42,7 +42,7 @@ fn khz_taken(job: &[usize], picks: &[usize], link: usize) -> usize {
 // The frequencies that an assignment takes, as the plan wanted.
 fn want_plan(job: &mut [usize], picks: &[usize]) {
     let mut l = 0;
-    while l < 72 {
+    while l < 136 {
         let f = khz_taken(job, picks, l);
         put(job, plus(PLAN, l), f);
         l += 1;

@@ -10,6 +10,7 @@ use setting::Options;
 use trial_parts::either;
 use trial_parts::first_bytes;
 use trial_parts::get;
+use trial_parts::get_byte;
 use trial_parts::get_cell;
 use trial_parts::kept::CALLS;
 use trial_parts::kept::CHANNELS;
@@ -214,11 +215,25 @@ pub fn plans_in(
     is_checked(kept, sheet, cells, 100)
 }
 
-// The same in cells and words of its own, which are not zero before.
+// The same in the words of form 3.
+fn plans_festival(kept: &mut [usize], sheet: &[u8], callers: &[u8], cells: &mut [u32]) -> bool {
+    let mut work = [7u64; 32768];
+    plans_in(kept, sheet, callers, cells, &mut work)
+}
+
+// The same in the words of forms 1 and 2.
+fn plans_hall(kept: &mut [usize], sheet: &[u8], callers: &[u8], cells: &mut [u32]) -> bool {
+    let mut work = [7u64; 8192];
+    plans_in(kept, sheet, callers, cells, &mut work)
+}
+
+// The same in cells of its own and in the words of the form, which are not zero before.
 pub fn plans(kept: &mut [usize], sheet: &[u8], callers: &[u8]) -> bool
     ensures { λ _. ⌜ length (now (kept .exit)) ≡ length (now (kept .entry)) ⌝ }
 {
-    let mut cells = [7u32; 72];
-    let mut work = [7u64; 8192];
-    plans_in(kept, sheet, callers, &mut cells, &mut work)
+    let mut cells = [7u32; 136];
+    if get_byte(sheet, 0) == 3 {
+        return plans_festival(kept, sheet, callers, &mut cells);
+    }
+    plans_hall(kept, sheet, callers, &mut cells)
 }

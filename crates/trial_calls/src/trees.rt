@@ -5,15 +5,22 @@ ghost use lib.ListN.{length};
 use crate::calls::plans;
 use crate::calls::want;
 use crate::report::line;
+use trial_parts::copy_bytes;
+use trial_parts::either;
+use trial_parts::first_bytes;
 use trial_parts::get;
+use trial_parts::get_byte;
 use trial_parts::kept::CHOICE;
+use trial_parts::kept::FESTIVALS;
 use trial_parts::kept::FILTER;
 use trial_parts::kept::NODE_SUMS;
 use trial_parts::kept::NODES;
 use trial_parts::kept::SIZES;
 use trial_parts::less;
+use trial_parts::more;
 use trial_parts::plus;
 use trial_parts::put;
+use trial_parts::put_byte;
 use trial_parts::times;
 
 // A limit that no tree here reaches.
@@ -50,7 +57,26 @@ fn keep_size(kept: &mut [usize], filter: usize, nodes: usize) {
     put(kept, at, plus(sum, nodes));
 }
 
-// One filter number: verdict, plan and nodes, then the limits around the tree's size.
+// A sheet of form 2 gives the same answer, plan and nodes with form 3 in its header, and a limit as large as the tree.
+fn agrees_as_festival(
+    kept: &mut [usize],
+    sheet: &[u8],
+    callers: &[u8],
+    number: usize,
+    nodes: usize,
+) -> bool {
+    let mut other = [0u8; 1200];
+    if get_byte(sheet, 0) != 2 {
+        return true;
+    }
+    copy_bytes(sheet, &mut other);
+    put_byte(&mut other, 0, 3);
+    more(kept, FESTIVALS);
+    want(kept, either(nodes == 0, MOST, nodes), number, nodes);
+    plans(kept, first_bytes(&other, sheet.len()), callers)
+}
+
+// One filter number: verdict, plan and nodes, then form 3 in the header, and the limits around the tree's size.
 fn under_filter(
     kept: &mut [usize],
     sheet: &[u8],
@@ -66,6 +92,9 @@ fn under_filter(
     }
     let nodes = get(kept, NODES);
     keep_size(kept, filter, nodes);
+    if !agrees_as_festival(kept, sheet, callers, number, nodes) {
+        return false;
+    }
     meets_limits(kept, sheet, callers, number, nodes)
 }
 

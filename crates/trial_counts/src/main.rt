@@ -16,6 +16,7 @@ use trial_parts::first_bytes;
 use trial_parts::get;
 use trial_parts::kept::AIRED;
 use trial_parts::kept::AT;
+use trial_parts::kept::FESTIVALS;
 use trial_parts::kept::LIST;
 use trial_parts::kept::LISTED;
 use trial_parts::kept::NODE_SUMS;
@@ -56,6 +57,7 @@ fn print_jobs(job: &[usize], m: usize) {
     item(b"; with a plan:", get(job, WITH));
     item(b"; with channels on air:", get(job, AIRED));
     item(b"; plans:", get(job, PLANS_SUM));
+    item(b"; calls again with form 3:", get(job, FESTIVALS));
     text(b"\n");
     print_nodes(job, 0);
     print_nodes(job, 1);

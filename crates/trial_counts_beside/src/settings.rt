@@ -6,9 +6,13 @@ use trial_counts_calls::LEAST;
 use trial_counts_calls::MOST;
 use trial_counts_calls::ask_plan;
 use trial_counts_calls::counts_in;
+use trial_parts::copy_bytes;
 use trial_parts::either;
+use trial_parts::first_bytes;
 use trial_parts::get;
+use trial_parts::get_byte;
 use trial_parts::kept::CHOICE;
+use trial_parts::kept::FESTIVALS;
 use trial_parts::kept::FILTER;
 use trial_parts::kept::LIMIT;
 use trial_parts::kept::N;
@@ -17,8 +21,10 @@ use trial_parts::kept::NODES;
 use trial_parts::kept::NUMBER;
 use trial_parts::kept::WANTED;
 use trial_parts::less;
+use trial_parts::more;
 use trial_parts::plus;
 use trial_parts::put;
+use trial_parts::put_byte;
 
 // Counts lent to some calls: more than n.
 const ROOMY: usize = 40;
@@ -79,7 +85,43 @@ fn add_nodes(kept: &mut [usize], setting: usize, nodes: usize) {
     put(kept, at, plus(sum, nodes));
 }
 
-// A job that planning accepts with this number: with n counts, around the tree's size, and with too few counts.
+// A sheet of form 2 gives the same answer, nodes, plan and counts with form 3 in its header.
+fn agrees_as_festival(
+    kept: &mut [usize],
+    sheet: &[u8],
+    callers: &[u8],
+    left: &[usize],
+    number: usize,
+    nodes: usize,
+) {
+    let mut other = [0u8; 1200];
+    if get_byte(sheet, 0) != 2 {
+        return;
+    }
+    copy_bytes(sheet, &mut other);
+    put_byte(&mut other, 0, 3);
+    more(kept, FESTIVALS);
+    want(kept, either(nodes == 0, MOST, nodes), number, nodes);
+    let n = get(kept, N);
+    let form_three = first_bytes(&other, sheet.len());
+    counts_in(kept, form_three, callers, left, n);
+}
+
+// With form 3 in the header, and around the tree's size.
+fn agrees_again(
+    kept: &mut [usize],
+    sheet: &[u8],
+    callers: &[u8],
+    left: &[usize],
+    number: usize,
+    nodes: usize,
+) {
+    agrees_as_festival(kept, sheet, callers, left, number, nodes);
+    meets_limits(kept, sheet, callers, left, number, nodes);
+}
+
+// A job that planning accepts with this number: with n counts, again with form 3, around the
+// tree's size, and with too few counts.
 fn accepts(
     kept: &mut [usize],
     sheet: &[u8],
@@ -93,7 +135,7 @@ fn accepts(
     counts_in(kept, sheet, callers, left, get(kept, N));
     let nodes = get(kept, NODES);
     add_nodes(kept, setting, nodes);
-    meets_limits(kept, sheet, callers, left, number, nodes);
+    agrees_again(kept, sheet, callers, left, number, nodes);
     refuses(kept, sheet, callers, left, 19, 1);
 }
 

@@ -10,6 +10,7 @@ use setting::Options;
 use trial_counts_apart::PLANS;
 use trial_parts::first_bytes;
 use trial_parts::get;
+use trial_parts::get_byte;
 use trial_parts::kept::CHANNELS;
 use trial_parts::kept::CHOICE;
 use trial_parts::kept::FILTER;
@@ -56,25 +57,37 @@ fn told(kept: &mut [usize], p: planner::Planned) -> usize {
     planner::verdict_number(verdict) as usize
 }
 
-// The number of a planning call's answer. Its nodes are kept, and its cells as the plan wanted.
-pub fn ask_plan(kept: &mut [usize], sheet: &[u8], callers: &[u8]) -> usize
-    ensures { λ _. ⌜ length (now (kept .exit)) ≡ length (now (kept .entry)) ⌝ }
-{
-    let mut cells = [7u32; 72];
-    let mut work = [7u64; 8192];
+// The number of a planning call's answer in these words. Its nodes are kept, and its cells as the plan wanted.
+fn ask_plan_in(kept: &mut [usize], sheet: &[u8], callers: &[u8], work: &mut [u64]) -> usize {
+    let mut cells = [7u32; 136];
     let mut channels = [0u8; 60];
     put_bytes(kept, CHANNELS, &mut channels);
     let on_air = first_bytes(&channels, get(kept, ON_AIR));
-    let p = planner::plan(
-        sheet,
-        on_air,
-        setting_of(kept),
-        callers,
-        &mut cells,
-        &mut work,
-    );
+    let p = planner::plan(sheet, on_air, setting_of(kept), callers, &mut cells, work);
     want_cells(kept, &cells);
     told(kept, p)
+}
+
+// The same in the words of form 3.
+fn ask_plan_festival(kept: &mut [usize], sheet: &[u8], callers: &[u8]) -> usize {
+    let mut work = [7u64; 32768];
+    ask_plan_in(kept, sheet, callers, &mut work)
+}
+
+// The same in the words of forms 1 and 2.
+fn ask_plan_hall(kept: &mut [usize], sheet: &[u8], callers: &[u8]) -> usize {
+    let mut work = [7u64; 8192];
+    ask_plan_in(kept, sheet, callers, &mut work)
+}
+
+// The same by the sheet's form.
+pub fn ask_plan(kept: &mut [usize], sheet: &[u8], callers: &[u8]) -> usize
+    ensures { λ _. ⌜ length (now (kept .exit)) ≡ length (now (kept .entry)) ⌝ }
+{
+    if get_byte(sheet, 0) == 3 {
+        return ask_plan_festival(kept, sheet, callers);
+    }
+    ask_plan_hall(kept, sheet, callers)
 }
 
 // The number of a counting call's answer; its nodes are kept.
@@ -129,6 +142,53 @@ fn are_left(kept: &[usize], counts: &[u64], left: &[usize], number: usize) -> bo
 
 // Whether a call in these counts gives the number and the nodes wanted, the plan where it is found, zeros in all other
 // cells, the plans left, and zero work words.
+fn gives_in(
+    kept: &mut [usize],
+    sheet: &[u8],
+    callers: &[u8],
+    counts: &mut [u64],
+    left: &[usize],
+    work: &mut [u64],
+) -> bool {
+    let mut cells = [7u32; 136];
+    let number = ask_counts(kept, sheet, callers, &mut cells, counts, work);
+    if !are_wanted(kept, number) {
+        return false;
+    }
+    if !holds_plan(kept, &cells, number == 100) {
+        return false;
+    }
+    if !all_zero(work) {
+        return false;
+    }
+    are_left(kept, counts, left, number)
+}
+
+// The same in the words of form 3.
+fn gives_festival(
+    kept: &mut [usize],
+    sheet: &[u8],
+    callers: &[u8],
+    counts: &mut [u64],
+    left: &[usize],
+) -> bool {
+    let mut work = [7u64; 32768];
+    gives_in(kept, sheet, callers, counts, left, &mut work)
+}
+
+// The same in the words of forms 1 and 2.
+fn gives_hall(
+    kept: &mut [usize],
+    sheet: &[u8],
+    callers: &[u8],
+    counts: &mut [u64],
+    left: &[usize],
+) -> bool {
+    let mut work = [7u64; 8192];
+    gives_in(kept, sheet, callers, counts, left, &mut work)
+}
+
+// The same by the sheet's form.
 fn gives(
     kept: &mut [usize],
     sheet: &[u8],
@@ -136,19 +196,10 @@ fn gives(
     counts: &mut [u64],
     left: &[usize],
 ) -> bool {
-    let mut cells = [7u32; 72];
-    let mut work = [7u64; 8192];
-    let number = ask_counts(kept, sheet, callers, &mut cells, counts, &mut work);
-    if !are_wanted(kept, number) {
-        return false;
+    if get_byte(sheet, 0) == 3 {
+        return gives_festival(kept, sheet, callers, counts, left);
     }
-    if !holds_plan(kept, &cells, number == 100) {
-        return false;
-    }
-    if !all_zero(&work) {
-        return false;
-    }
-    are_left(kept, counts, left, number)
+    gives_hall(kept, sheet, callers, counts, left)
 }
 
 // Keeps where the first call differed.

@@ -7,6 +7,7 @@ use trial_counts_calls::ask_counts;
 use trial_parts::either;
 use trial_parts::first_bytes;
 use trial_parts::get;
+use trial_parts::get_byte;
 use trial_parts::get_cell;
 use trial_parts::kept::CHANNELS;
 use trial_parts::kept::CHOICE;
@@ -76,16 +77,16 @@ fn asked_in(
 
 // A call in so many of them, which are not zero before.
 fn asked(kept: &mut [usize], sheet: &[u8], list: &[u8], c: usize, m: usize, w: usize) -> usize {
-    let mut cells = [7u32; 72];
+    let mut cells = [7u32; 136];
     let mut counts = [7u64; 40];
-    let mut work = [7u64; 8192];
-    if 72 < c {
+    let mut work = [7u64; 32768];
+    if 136 < c {
         return LEAVES;
     }
     if 40 < m {
         return LEAVES;
     }
-    if 8192 < w {
+    if 32768 < w {
         return LEAVES;
     }
     asked_in(
@@ -121,6 +122,11 @@ fn put_faults(kept: &mut [usize], mended: usize) {
     put_channels(kept, fault(mended, 4));
 }
 
+// The work words of a sheet's form.
+fn words_of(sheet: &[u8]) -> usize {
+    either(get_byte(sheet, 0) == 3, 32768, 8192)
+}
+
 // A call with the faults left: an empty sheet, filter number 8, a cell and a work word too few, channel 20, an empty
 // list, a count too few.
 pub fn with_faults(kept: &mut [usize], sheet: &[u8], list: &[u8], mended: usize) -> usize
@@ -130,7 +136,7 @@ pub fn with_faults(kept: &mut [usize], sheet: &[u8], list: &[u8], mended: usize)
     let bytes = either(mended <= 0, 0, sheet.len());
     let classes = either(mended <= 5, 0, list.len());
     let c = less(get(kept, K), fault(mended, 2));
-    let w = less(8192, fault(mended, 3));
+    let w = less(words_of(sheet), fault(mended, 3));
     let m = less(get(kept, N), fault(mended, 6));
     asked(
         kept,

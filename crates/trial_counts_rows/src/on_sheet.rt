@@ -45,9 +45,9 @@ fn print_counts(counts: &[u64], n: usize) {
 
 // One filter number of a row `plans`.
 fn plans_under(kept: &mut [usize], sheet: &[u8], list: &[u8], filter: usize) {
-    let mut cells = [7u32; 72];
-    let mut counts = [7u64; 40];
-    let mut work = [7u64; 8192];
+    let mut cells = [7u32; 136];
+    let mut counts = [7u64; 1100];
+    let mut work = [7u64; 32768];
     put(kept, FILTER, filter);
     put(kept, LIMIT, MOST);
     let told = ask_counts(kept, sheet, list, &mut cells, &mut counts, &mut work);
@@ -108,8 +108,8 @@ fn called_row(kept: &mut [usize], word: usize, sheet: &[u8], list: &[u8]) {
 pub fn row_on_sheet(kept: &mut [usize], word: usize)
     ensures { λ _. ⌜ length (now (kept .exit)) ≡ length (now (kept .entry)) ⌝ }
 {
-    let mut sheet = [0u8; 1200];
-    let mut list = [0u8; 40];
+    let mut sheet = [0u8; 8192];
+    let mut list = [0u8; 1100];
     let length = encode(kept, &mut sheet);
     put_bytes(kept, LIST, &mut list);
     let m = get(kept, LISTED);

@@ -6,6 +6,7 @@ use crate::sequence::draw_steps;
 use trial_tables::count;
 use trial_tables::get;
 use trial_tables::kept::BELOW;
+use trial_tables::kept::FESTIVAL;
 use trial_tables::kept::FREQUENCIES;
 use trial_tables::kept::K;
 use trial_tables::kept::N;
@@ -138,6 +139,7 @@ fn make_rules(job: &mut [usize]) {
 pub fn make_job(job: &mut [usize])
     ensures { λ _. ⌜ length (now (job .exit)) ≡ length (now (job .entry)) ⌝ }
 {
+    put(job, FESTIVAL, 0);
     make_links(job);
     make_widths(job);
     make_rules(job);

@@ -2,6 +2,7 @@
 ghost use mathlib.Core.Path.{_≡_};
 ghost use lib.ListN.{length};
 use trial_parts::either;
+use trial_parts::kept::FESTIVAL;
 use trial_parts::kept::K;
 use trial_parts::kept::N;
 use trial_parts::kept::ON_AIR;
@@ -66,6 +67,7 @@ fn put_plain(job: &mut [usize])
     ensures { λ _. ⌜ length (now (job .exit)) ≡ length (now (job .entry)) ⌝ }
 {
     put(job, WIDE, 0);
+    put(job, FESTIVAL, 0);
     put(job, ON_AIR, 0);
 }
 

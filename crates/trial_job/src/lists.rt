@@ -57,7 +57,7 @@ fn spoil_list(n: usize, k: usize, list: &mut [u8], kept: &mut [usize]) -> usize
 
 // A class list for the caller, a partition mostly. Gives its length.
 pub fn make_list(job: &mut [usize], graph: &[usize], list: &mut [u8]) -> usize
-    ensures { λ r. ⌜ r ≤ getD (now (job .entry)) 737 0 + 1 ⌝ }
+    ensures { λ r. ⌜ r ≤ getD (now (job .entry)) 1301 0 + 1 ⌝ }
 {
     let n = get(job, N);
     let k = get(job, K);

@@ -1,6 +1,7 @@
 // Jobs at the limits: each link has the frequencies 1, 2, ..; the rules are those of the first pairs of links, all of
-// kind 3, and each lists the first pairs of places. So with a rule for every two links the first plan takes the first
-// frequencies, which are equal, in k + 1 nodes. With frequencies of their own, no two equal, it does so with any rules.
+// kind 3, and each lists the first pairs of places, until they are made rules of kind 1. So with a rule for every two
+// links the first plan takes the first frequencies, which are equal, in k + 1 nodes. With frequencies of their own, no
+// two equal, it does so with any rules of kind 3.
 ghost use mathlib.Core.Path.{_≡_};
 ghost use lib.ListN.{length};
 use trial_tables::either;
@@ -12,12 +13,14 @@ use trial_tables::kept::N;
 use trial_tables::kept::PLAN;
 use trial_tables::kept::Q;
 use trial_tables::kept::T;
+use trial_tables::kept::WIDTHS;
 use trial_tables::khz;
 use trial_tables::plus;
 use trial_tables::put;
 use trial_tables::put_link;
 use trial_tables::put_pair;
 use trial_tables::put_rule;
+use trial_tables::rule_at;
 
 // Part i of a total in equal parts, the first ones one larger where it does not come out even.
 fn share(total: usize, parts: usize, i: usize) -> usize {
@@ -98,12 +101,43 @@ pub fn put_own(job: &mut [usize])
     }
 }
 
+// Every rule becomes one of kind 1 with the same spacing.
+pub fn put_gaps(job: &mut [usize], spacing: usize)
+    ensures { λ _. ⌜ length (now (job .exit)) ≡ length (now (job .entry)) ⌝ }
+{
+    let q = get(job, Q);
+    put(job, T, 0);
+    let mut j = 0;
+    while j < q {
+        put_gap(job, rule_at(j), spacing);
+        j += 1;
+    }
+}
+
+fn put_gap(job: &mut [usize], at: usize, spacing: usize) {
+    put(job, plus(at, 2), 1);
+    put(job, plus(at, 3), 0);
+    put(job, plus(at, 4), spacing);
+}
+
+// Every link has the same width.
+pub fn put_widths(job: &mut [usize], width: usize)
+    ensures { λ _. ⌜ length (now (job .exit)) ≡ length (now (job .entry)) ⌝ }
+{
+    let k = get(job, K);
+    let mut l = 0;
+    while l < k {
+        put(job, plus(WIDTHS, l), width);
+        l += 1;
+    }
+}
+
 // The plan wanted: the first frequencies of the first m links, and zeros after them.
 pub fn want_firsts(job: &mut [usize], m: usize)
     ensures { λ _. ⌜ length (now (job .exit)) ≡ length (now (job .entry)) ⌝ }
 {
     let mut l = 0;
-    while l < 72 {
+    while l < 136 {
         let f = khz(job, first(job, l));
         put(job, plus(PLAN, l), either(l < m, f, 0));
         l += 1;

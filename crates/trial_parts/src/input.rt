@@ -108,7 +108,7 @@ pub fn read(text: &[u8], kept: &mut [usize]) -> usize
 pub fn next(kept: &mut [usize]) -> usize
     ensures { λ r. ⌜
         (now (kept .exit) ≡ set (now (kept .entry)) 0 ((getD (now (kept .entry)) 0 0 + 1) % 2 ^ 64)) ×
-        (r ≡ getD (now (kept .exit)) ((27854 + getD (now (kept .entry)) 0 0) % 2 ^ 64) 0) ⌝ }
+        (r ≡ getD (now (kept .exit)) ((29058 + getD (now (kept .entry)) 0 0) % 2 ^ 64) 0) ⌝ }
 {
     let at = get(kept, AT);
     put(kept, AT, plus(at, 1));

@@ -14,6 +14,7 @@ pub use input::next_run;
 pub use input::read;
 pub use reading::reads_job;
 pub use trial_tables::after;
+pub use trial_tables::copy_bytes;
 pub use trial_tables::count;
 pub use trial_tables::distance;
 pub use trial_tables::either;

@@ -2,11 +2,14 @@
 ghost use mathlib.Core.Path.{_≡_};
 ghost use lib.ListN.{length};
 use crate::even::make_even;
+use crate::even::put_gaps;
 use crate::even::put_own;
+use crate::even::put_widths;
 use crate::input::next;
 use crate::input::next_run;
 use trial_tables::get;
 use trial_tables::kept::CHANNELS;
+use trial_tables::kept::FESTIVAL;
 use trial_tables::kept::FREQUENCIES;
 use trial_tables::kept::K;
 use trial_tables::kept::LINKS;
@@ -24,7 +27,11 @@ use trial_tables::times;
 // The words that begin a row with a job, by their first bytes.
 const EVEN: usize = 101;
 
+const GAP: usize = 103;
+
 const KHZ: usize = 107;
+
+const MANY: usize = 109;
 
 const OWN: usize = 111;
 
@@ -35,6 +42,7 @@ const UHF: usize = 117;
 // The counts. The sheet is of form 1, until a row gives widths, and no channel is on air, until a row gives some.
 fn read_counts(job: &mut [usize]) {
     put(job, WIDE, 0);
+    put(job, FESTIVAL, 0);
     put(job, ON_AIR, 0);
     next_run(job, K, 4);
 }
@@ -59,13 +67,47 @@ fn read_even(job: &mut [usize]) {
 
 fn read_widths(job: &mut [usize]) {
     put(job, WIDE, 1);
+    put(job, FESTIVAL, 0);
     next_run(job, WIDTHS, get(job, K));
+}
+
+fn read_festival(job: &mut [usize]) {
+    let width = next(job);
+    put(job, WIDE, 1);
+    put(job, FESTIVAL, 1);
+    put_widths(job, width);
+}
+
+fn read_gap(job: &mut [usize]) {
+    let spacing = next(job);
+    put_gaps(job, spacing);
 }
 
 fn read_channels(job: &mut [usize]) {
     let m = next(job);
     put(job, ON_AIR, m);
     next_run(job, CHANNELS, m);
+}
+
+// Reads a row that changes the job. Says whether the word begins one.
+fn changes_job(job: &mut [usize], word: usize) -> bool {
+    if word == KHZ {
+        read_widths(job);
+        return true;
+    }
+    if word == MANY {
+        read_festival(job);
+        return true;
+    }
+    if word == GAP {
+        read_gap(job);
+        return true;
+    }
+    if word == UHF {
+        read_channels(job);
+        return true;
+    }
+    false
 }
 
 // Reads a row with a job. Says whether the word begins one.
@@ -85,13 +127,5 @@ pub fn reads_job(job: &mut [usize], word: usize) -> bool
         put_own(job);
         return true;
     }
-    if word == KHZ {
-        read_widths(job);
-        return true;
-    }
-    if word == UHF {
-        read_channels(job);
-        return true;
-    }
-    false
+    changes_job(job, word)
 }

@@ -50,6 +50,8 @@ const TAKES: usize = 116;
 
 const WITHIN: usize = 119;
 
+const YIELDS: usize = 121;
+
 // One filter number of a row `plan`.
 fn plan_under(kept: &mut [usize], sheet: &[u8], list: &[u8], filter: usize) -> bool {
     let nodes = next(kept);
@@ -80,6 +82,15 @@ fn plan_row(kept: &mut [usize], sheet: &[u8], list: &[u8]) -> bool {
     plan_filters(kept, sheet, list)
 }
 
+// `yields`: choice, limit, the number of the answer, how many links take their first frequency, the others none, and
+// the nodes under each filter number.
+fn yields_row(kept: &mut [usize], sheet: &[u8], list: &[u8]) -> bool {
+    next_run(kept, CHOICE, 3);
+    let m = next(kept);
+    want_firsts(kept, m);
+    plan_filters(kept, sheet, list)
+}
+
 // The refusal wanted, or 0 where the call is to be accepted.
 fn want_refusal(kept: &mut [usize], number: usize) {
     put(kept, NUMBER, number);
@@ -106,8 +117,8 @@ fn plans_within(
 
 // `within`: filter, choice, limit, the refusal, or 0 where the call is accepted, and the cells and words lent.
 fn within_row(kept: &mut [usize], sheet: &[u8], list: &[u8]) -> bool {
-    let mut cells = [7u32; 72];
-    let mut work = [7u64; 8192];
+    let mut cells = [7u32; 136];
+    let mut work = [7u64; 32768];
     next_run(kept, FILTER, 3);
     let number = next(kept);
     want_refusal(kept, number);
@@ -132,7 +143,7 @@ fn checks_first(kept: &mut [usize], sheet: &[u8], cells: &[u32], m: usize, numbe
 
 // `check`: how many cells, the cells, and the number of the answer.
 fn check_row(kept: &mut [usize], sheet: &[u8]) -> bool {
-    let mut cells = [0u32; 72];
+    let mut cells = [0u32; 136];
     let m = next(kept);
     next_run(kept, PLAN, m);
     plan_cells(kept, &mut cells, m);
@@ -159,7 +170,7 @@ fn refuses_under(
 // A sheet that is refused, or accepted, by planning and by the check. With a setting out of range, which is tested
 // after the sheet, too.
 fn refuses(kept: &mut [usize], sheet: &[u8], number: usize) -> bool {
-    let zeros = [0u32; 72];
+    let zeros = [0u32; 136];
     if !refuses_under(kept, sheet, 0, 0, 1000000, number) {
         return false;
     }
@@ -225,8 +236,8 @@ fn takes_row(kept: &mut [usize], sheet: &[u8]) -> bool {
 
 // The check of the plan wanted.
 fn checks_plan(kept: &mut [usize], sheet: &[u8]) -> bool {
-    let mut cells = [0u32; 72];
-    plan_cells(kept, &mut cells, 72);
+    let mut cells = [0u32; 136];
+    plan_cells(kept, &mut cells, 136);
     let number = get(kept, NUMBER);
     checks(kept, sheet, &cells, number)
 }
@@ -242,6 +253,9 @@ fn beside_row(kept: &mut [usize], sheet: &[u8], list: &[u8]) -> bool {
 fn called_row(kept: &mut [usize], word: usize, sheet: &[u8], list: &[u8]) -> bool {
     if word == PLANS {
         return plan_row(kept, sheet, list);
+    }
+    if word == YIELDS {
+        return yields_row(kept, sheet, list);
     }
     if word == WITHIN {
         return within_row(kept, sheet, list);
@@ -262,7 +276,7 @@ fn called_row(kept: &mut [usize], word: usize, sheet: &[u8], list: &[u8]) -> boo
 }
 
 fn listed_row(kept: &mut [usize], word: usize, sheet: &[u8]) -> bool {
-    let mut list = [0u8; 600];
+    let mut list = [0u8; 1100];
     put_bytes(kept, LIST, &mut list);
     let m = get(kept, LISTED);
     called_row(kept, word, sheet, first_bytes(&list, m))
@@ -272,7 +286,7 @@ fn listed_row(kept: &mut [usize], word: usize, sheet: &[u8]) -> bool {
 pub fn row_on_sheet(kept: &mut [usize], word: usize) -> bool
     ensures { λ _. ⌜ length (now (kept .exit)) ≡ length (now (kept .entry)) ⌝ }
 {
-    let mut sheet = [0u8; 60000];
+    let mut sheet = [0u8; 62400];
     let length = encode(kept, &mut sheet);
     if word == ALTER {
         return alter_row(kept, &mut sheet, length);

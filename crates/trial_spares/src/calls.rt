@@ -38,7 +38,7 @@ pub fn shows_in(
 ) -> bool
     ensures { λ _. ⌜ length (now (kept .exit)) ≡ length (now (kept .entry)) ⌝ }
 {
-    let mut vertices = [0usize; 64];
+    let mut vertices = [0usize; 128];
     more(kept, SPARES);
     let got = ask(sheet, channels, cells, table);
     if !is_answer(got, number, get_cell(cells, 0)) {
@@ -57,7 +57,7 @@ fn shows_on(
     number: usize,
     places: usize,
 ) -> bool {
-    let mut table = [7i32; 4160];
+    let mut table = [7i32; 16448];
     if table.len() < places {
         return shows_in(kept, sheet, channels, cells, number, &mut table);
     }
@@ -105,7 +105,7 @@ fn copy_cells(cells: &[u32], out: &mut [u32]) {
 
 // With a cell that is not in its link's list, but one above its last frequency.
 fn shows_unlisted(kept: &mut [usize], sheet: &[u8], channels: &[u8], cells: &[u32]) -> bool {
-    let mut other = [0u32; 72];
+    let mut other = [0u32; 136];
     copy_cells(cells, &mut other);
     let l = turn(kept, get(kept, K));
     let last = khz(kept, less(list_end(kept, l), 1));

@@ -67,8 +67,8 @@ fn displays(kept: &mut [usize], sheet: &[u8], cells: &mut [u32], table: &mut [i3
 pub fn display_row(kept: &mut [usize], sheet: &[u8]) -> bool
     ensures { λ _. ⌜ length (now (kept .exit)) ≡ length (now (kept .entry)) ⌝ }
 {
-    let mut cells = [0u32; 72];
-    let mut table = [7i32; 4160];
+    let mut cells = [0u32; 136];
+    let mut table = [7i32; 16448];
     let places = next(kept);
     let m = next(kept);
     if table.len() < places {

@@ -23,17 +23,17 @@ abbrev pub chosen : Bool → ℕ → ℕ → ℕ
 chosen true a b = a
 chosen false a b = b
 
--- the widths of two links together, 0 in form 1: a job's widths stand from 44238 on, and its form less 1 at 44303
+-- the widths of two links together, 0 in form 1: a job's widths stand from 49538 on, and 0 for form 1 or 1 at 49667
 abbrev pub widthsOf : List ℕ → ℕ → ℕ → ℕ
-widthsOf job a b = getD job 44303 0 % 65536 *
-    ((getD job ((44238 + a) % 2 ^ 64) 0 + getD job ((44238 + b) % 2 ^ 64) 0) % 2 ^ 64 % 65536)
+widthsOf job a b = getD job 49667 0 % 65536 *
+    ((getD job ((49538 + a) % 2 ^ 64) 0 + getD job ((49538 + b) % 2 ^ 64) 0) % 2 ^ 64 % 65536)
 
 -- the bytes of a link's row
 abbrev pub linkBytes : List ℕ → ℕ
-linkBytes job = (4 + 4 * (getD job 44303 0 % 65536)) % 2 ^ 64
+linkBytes job = (4 + 4 * (getD job 49667 0 % 65536)) % 2 ^ 64
 
--- the bytes of a job's sheet: k, n, q and t stand at 736 to 739
+-- the bytes of a job's sheet: k, n, q and t stand at 1300 to 1303
 unfoldable pub sheetLength : List ℕ → ℕ
 sheetLength job =
-    (((((((40 + linkBytes job % 65536 * (getD job 736 0 % 65536)) % 2 ^ 64) + 4 * (getD job 737 0 % 65536)) % 2 ^ 64) +
-    12 * (getD job 738 0 % 65536)) % 2 ^ 64) + 4 * (getD job 739 0 % 65536)) % 2 ^ 64
+    (((((((40 + linkBytes job % 65536 * (getD job 1300 0 % 65536)) % 2 ^ 64) + 4 * (getD job 1301 0 % 65536)) % 2 ^ 64) +
+    12 * (getD job 1302 0 % 65536)) % 2 ^ 64) + 4 * (getD job 1303 0 % 65536)) % 2 ^ 64

@@ -3,6 +3,7 @@ ghost use mathlib.Core.Path.{_≡_};
 ghost use Prim.Native.Nat.{_+_, _*_, _%_, _^_};
 ghost use lib.ListN.{getD};
 ghost use Rattle.trial_tables.specs.Fields.{linkBytes, pairAt, ruleAt, sheetLength, widthsOf};
+use crate::kept::FESTIVAL;
 use crate::kept::FREQUENCIES;
 use crate::kept::K;
 use crate::kept::LINKS;
@@ -21,25 +22,25 @@ use crate::parts::put_word;
 use crate::parts::times;
 
 pub fn first(job: &[usize], link: usize) -> usize
-    ensures { λ r. ⌜ r ≡ getD (now (job .entry)) ((740 + (link + link) % 2 ^ 64) % 2 ^ 64) 0 ⌝ }
+    ensures { λ r. ⌜ r ≡ getD (now (job .entry)) ((1304 + (link + link) % 2 ^ 64) % 2 ^ 64) 0 ⌝ }
 {
     get(job, plus(LINKS, plus(link, link)))
 }
 
 pub fn count(job: &[usize], link: usize) -> usize
-    ensures { λ r. ⌜ r ≡ getD (now (job .entry)) ((741 + (link + link) % 2 ^ 64) % 2 ^ 64) 0 ⌝ }
+    ensures { λ r. ⌜ r ≡ getD (now (job .entry)) ((1305 + (link + link) % 2 ^ 64) % 2 ^ 64) 0 ⌝ }
 {
     get(job, plus(LINKS + 1, plus(link, link)))
 }
 
 pub fn khz(job: &[usize], v: usize) -> usize
-    ensures { λ r. ⌜ r ≡ getD (now (job .entry)) ((870 + v) % 2 ^ 64) 0 ⌝ }
+    ensures { λ r. ⌜ r ≡ getD (now (job .entry)) ((1562 + v) % 2 ^ 64) 0 ⌝ }
 {
     get(job, plus(FREQUENCIES, v))
 }
 
 fn width(job: &[usize], link: usize) -> usize
-    ensures { λ r. ⌜ r ≡ getD (now (job .entry)) ((44238 + link) % 2 ^ 64) 0 ⌝ }
+    ensures { λ r. ⌜ r ≡ getD (now (job .entry)) ((49538 + link) % 2 ^ 64) 0 ⌝ }
 {
     get(job, plus(WIDTHS, link))
 }
@@ -53,14 +54,14 @@ pub fn widths(job: &[usize], a: usize, b: usize) -> usize
 
 // The place of a rule's row.
 pub fn rule_at(rule: usize) -> usize
-    ensures { λ r. ⌜ r ≡ (1383 + 5 * (rule % 65536)) % 2 ^ 64 ⌝ }
+    ensures { λ r. ⌜ r ≡ (2587 + 5 * (rule % 65536)) % 2 ^ 64 ⌝ }
 {
     plus(RULES, times(5, rule))
 }
 
 pub fn put_link(job: &mut [usize], link: usize, start: usize, m: usize)
     ensures { λ _. ⌜ now (job .exit) ≡
-        pairAt (now (job .entry)) ((740 + (link + link) % 2 ^ 64) % 2 ^ 64) start m ⌝ }
+        pairAt (now (job .entry)) ((1304 + (link + link) % 2 ^ 64) % 2 ^ 64) start m ⌝ }
 {
     let at = plus(LINKS, plus(link, link));
     put(job, at, start);
@@ -77,7 +78,7 @@ pub fn put_rule(
     value: usize,
 )
     ensures { λ _. ⌜ now (job .exit) ≡
-        ruleAt (now (job .entry)) ((1383 + 5 * (rule % 65536)) % 2 ^ 64) a b kind m value ⌝ }
+        ruleAt (now (job .entry)) ((2587 + 5 * (rule % 65536)) % 2 ^ 64) a b kind m value ⌝ }
 {
     let at = rule_at(rule);
     put(job, at, a);
@@ -89,7 +90,7 @@ pub fn put_rule(
 
 pub fn put_pair(job: &mut [usize], pair: usize, i: usize, j: usize)
     ensures { λ _. ⌜ now (job .exit) ≡
-        pairAt (now (job .entry)) ((11468 + (pair + pair) % 2 ^ 64) % 2 ^ 64) i j ⌝ }
+        pairAt (now (job .entry)) ((12672 + (pair + pair) % 2 ^ 64) % 2 ^ 64) i j ⌝ }
 {
     let at = plus(PAIRS, plus(pair, pair));
     put(job, at, i);
@@ -186,11 +187,15 @@ fn put_rest(job: &[usize], out: &mut [u8]) -> usize
     end
 }
 
+fn form(job: &[usize]) -> usize {
+    plus(plus(1, get(job, WIDE)), get(job, FESTIVAL))
+}
+
 // Writes the sheet, and gives its length.
 pub fn encode(job: &[usize], out: &mut [u8]) -> usize
     ensures { λ r. ⌜ r ≡ sheetLength (now (job .entry)) ⌝ }
 {
-    put_word(out, 0, plus(1, get(job, WIDE)));
+    put_word(out, 0, form(job));
     put_run(job, K, 4, out, 4, 4);
     put_rest(job, out)
 }

@@ -47,53 +47,59 @@ pub const NODE_SUMS: usize = 24;
 // The nodes of a sheet's trees under a choice, by filter number.
 pub const SIZES: usize = 48;
 
-// The plan wanted, with zeros after it, in 72 cells; and the caller's list, up to 600 classes.
+// The plan wanted, with zeros after it, in 136 cells; and the caller's list, up to 1,100 classes.
 pub const PLAN: usize = 64;
 
-pub const LIST: usize = 136;
+pub const LIST: usize = 200;
 
 // The job: its sheet's counts k, n, q and t, and its fields, two numbers a link, one a frequency, five a rule and two a
 // pair.
-pub const K: usize = 736;
+pub const K: usize = 1300;
 
-pub const N: usize = 737;
+pub const N: usize = 1301;
 
-pub const Q: usize = 738;
+pub const Q: usize = 1302;
 
-pub const T: usize = 739;
+pub const T: usize = 1303;
 
-pub const LINKS: usize = 740;
+pub const LINKS: usize = 1304;
 
-pub const FREQUENCIES: usize = 870;
+pub const FREQUENCIES: usize = 1562;
 
-pub const RULES: usize = 1383;
+pub const RULES: usize = 2587;
 
-pub const PAIRS: usize = 11468;
+pub const PAIRS: usize = 12672;
 
-// The input's words and numbers, up to 16,384.
-pub const INPUT: usize = 27854;
+// The input's words and numbers, up to 20,480.
+pub const INPUT: usize = 29058;
 
-// The job's widths, one a link, and 1 where its sheet is of form 2, which says them; else 0.
-pub const WIDTHS: usize = 44238;
+// The job's widths, one a link; 1 where its sheet is of form 2 or 3, which says them, else 0; and 1 where it is of form
+// 3, else 0.
+pub const WIDTHS: usize = 49538;
 
-pub const WIDE: usize = 44303;
+pub const WIDE: usize = 49667;
+
+pub const FESTIVAL: usize = 49668;
 
 // The channels on air, part of the job: how many, and their numbers, up to 60.
-pub const ON_AIR: usize = 44304;
+pub const ON_AIR: usize = 49669;
 
-pub const CHANNELS: usize = 44305;
+pub const CHANNELS: usize = 49670;
 
 // Of the jobs of the pseudo-random sequence: the kHz below all frequencies, and those of a step, less 1.
-pub const BELOW: usize = 44365;
+pub const BELOW: usize = 49730;
 
-pub const STEP: usize = 44366;
+pub const STEP: usize = 49731;
 
 // Sheets with channels on air, and with a link left empty by them.
-pub const AIRED: usize = 44367;
+pub const AIRED: usize = 49732;
 
-pub const EMPTIED: usize = 44368;
+pub const EMPTIED: usize = 49733;
 
-pub const ROOM: usize = 44369;
+// Calls of planning since the last line printed of form 2 sheets with form 3 in the header.
+pub const FESTIVALS: usize = 49734;
+
+pub const ROOM: usize = 49735;
 
 // The cells of a small job's graph, a table of its own: the layer of each of 32 vertices, and a row of 32 for each.
 pub const CELLS: usize = 1056;

@@ -14,6 +14,7 @@ pub use job::put_rule;
 pub use job::rule_at;
 pub use job::widths;
 pub use parts::after;
+pub use parts::copy_bytes;
 pub use parts::distance;
 pub use parts::either;
 pub use parts::first_bytes;

@@ -132,6 +132,17 @@ pub fn put_bytes(s: &[usize], from: usize, out: &mut [u8])
     }
 }
 
+// Copies bytes, as many as there are room for.
+pub fn copy_bytes(s: &[u8], out: &mut [u8])
+    ensures { λ _. ⌜ length (now (out .exit)) ≡ length (now (out .entry)) ⌝ }
+{
+    let mut i = 0;
+    while i < out.len() {
+        put_byte(out, i, get_byte(s, i));
+        i += 1;
+    }
+}
+
 pub fn put_half(out: &mut [u8], at: usize, x: usize)
     ensures { λ _. ⌜ now (out .exit) ≡ halfAt (now (out .entry)) at x ⌝ }
 {

@@ -33,7 +33,7 @@ fn called_row(kept: &mut [usize], word: usize, sheet: &[u8]) -> bool {
 
 // A row on the job's sheet.
 fn row_on_sheet(kept: &mut [usize], word: usize) -> bool {
-    let mut sheet = [0u8; 60000];
+    let mut sheet = [0u8; 62400];
     let length = encode(kept, &mut sheet);
     called_row(kept, word, first_bytes(&sheet, length))
 }

@@ -7,6 +7,8 @@ use trial_parts::encode;
 use trial_parts::first_bytes;
 use trial_parts::get;
 use trial_parts::kept::INPUT;
+use trial_parts::kept::K;
+use trial_parts::kept::N;
 use trial_parts::kept::T;
 use trial_texts_calls::exports;
 use trial_texts_calls::imports;
@@ -47,13 +49,21 @@ fn returns(
     runs_agree(kept, sheet, imported)
 }
 
-// Texts of more pairs than a sheet holds.
-fn is_too_many(kept: &mut [usize], text: &[u8], sizes: &[u8]) -> bool {
+// Texts that are refused by this number.
+fn is_refused(kept: &mut [usize], text: &[u8], sizes: &[u8], number: usize) -> bool {
     let mut again = [0u8; 60000];
-    if !has_cause(kept, 15) {
+    if !has_cause(kept, number) {
         return false;
     }
-    imports(kept, text, sizes, &mut again, 15, b"")
+    imports(kept, text, sizes, &mut again, number, b"")
+}
+
+// Whether a job has more links or frequencies than a sheet of form 1 holds.
+fn is_festival(job: &[usize]) -> bool {
+    if 64 < get(job, K) {
+        return true;
+    }
+    512 < get(job, N)
 }
 
 // The way back, by the sheet that the graph asks for, of form 1: the table ends before a job's widths and form.
@@ -70,9 +80,12 @@ pub fn comes_back(
 {
     let mut job = [0usize; INPUT];
     let mut back = [0u8; 60000];
+    if is_festival(kept) {
+        return is_refused(kept, text, sizes, 13);
+    }
     put_back(kept, table, &mut job);
     if 8192 < get(&job, T) {
-        return is_too_many(kept, text, sizes);
+        return is_refused(kept, text, sizes, 15);
     }
     if !has_cause(kept, 0) {
         return false;

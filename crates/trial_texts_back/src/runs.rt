@@ -4,6 +4,7 @@ ghost use lib.ListN.{length};
 use setting::Options;
 use trial_parts::either;
 use trial_parts::get;
+use trial_parts::get_byte;
 use trial_parts::kept::CALLS;
 use trial_parts::kept::NODES;
 use trial_parts::narrow;
@@ -26,11 +27,26 @@ fn ask(
     planner::verdict_number(verdict) as usize
 }
 
-// The same in cells and words of its own.
-fn run(kept: &mut [usize], sheet: &[u8], options: Options) -> usize {
-    let mut cells = [7u32; 72];
+// The same in cells of its own and in the words of form 3.
+fn run_festival(kept: &mut [usize], sheet: &[u8], options: Options) -> usize {
+    let mut cells = [7u32; 136];
+    let mut work = [7u64; 32768];
+    ask(kept, sheet, options, &mut cells, &mut work)
+}
+
+// The same in those of forms 1 and 2.
+fn run_hall(kept: &mut [usize], sheet: &[u8], options: Options) -> usize {
+    let mut cells = [7u32; 136];
     let mut work = [7u64; 8192];
     ask(kept, sheet, options, &mut cells, &mut work)
+}
+
+// The same by the sheet's form.
+fn run(kept: &mut [usize], sheet: &[u8], options: Options) -> usize {
+    if get_byte(sheet, 0) == 3 {
+        return run_festival(kept, sheet, options);
+    }
+    run_hall(kept, sheet, options)
 }
 
 // Setting p: eight filter numbers under choices 0 and 1, with a limit of 1,000,000 and then of 3.

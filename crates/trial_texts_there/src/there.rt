@@ -77,26 +77,26 @@ fn there_in(
     )
 }
 
-// The same in arrays. The largest texts have 1,235,834 and 177 bytes.
+// The same in arrays. The largest texts of forms 1 and 2 have 1,235,834 and 177 bytes.
 fn there_wide(
     kept: &mut [usize],
     sheet: &[u8],
-    table: &mut [u8; 262144],
+    table: &mut [u8; 1048576],
     text: &mut [u8; 1300000],
-    sizes: &mut [u8; 256],
+    sizes: &mut [u8; 512],
     graph: &mut [u8; 1300000],
-    counts: &mut [u8; 256],
+    counts: &mut [u8; 512],
 ) -> bool {
     there_in(kept, sheet, table, text, sizes, graph, counts)
 }
 
 // The room of any sheet.
 fn there_large(kept: &mut [usize], sheet: &[u8]) -> bool {
-    let mut table = [0u8; 262144];
+    let mut table = [0u8; 1048576];
     let mut text = [0u8; 1300000];
-    let mut sizes = [0u8; 256];
+    let mut sizes = [0u8; 512];
     let mut graph = [0u8; 1300000];
-    let mut counts = [0u8; 256];
+    let mut counts = [0u8; 512];
     there_wide(
         kept,
         sheet,

@@ -1,4 +1,4 @@
--- `byte_calls::check_bytes` meets its contract: as many cells are checked as there are in the bytes, up to 64.
+-- `byte_calls::check_bytes` meets its contract: as many cells are checked as there are in the bytes, up to 128.
 use borrow.Author.Needs.{needs}
 use denote.Ref.{now}
 use Prim.Native.Nat.{ℕ, _/_, min}
@@ -16,15 +16,15 @@ use Rattle.byte_calls.proofs.check_bytes.Tie as tie
 slice-aggregate-check-into : tie.Need-slice-aggregate-check-into
 slice-aggregate-check-into c =
     let n = c .before .lent in
-    sym (length-take-le (n .result) (replicate 64 0) (n .ensures .1))
+    sym (length-take-le (n .result) (replicate 128 0) (n .ensures .1))
 
 check-into-requires : tie.Need-check-into-requires
 check-into-requires c κs =
     let a = c .before .before .before .before .before .args in
     let n = c .before .lent in
     let m = n .result in
-    let e : length {A = ℕ} (take m (replicate 64 0)) ≡ m = length-take-le m (replicate 64 0) (n .ensures .1) in
-    omega (arith, n .ensures .0, min-le-left (length (now (a .bytes)) / 4) 64)
+    let e : length {A = ℕ} (take m (replicate 128 0)) ≡ m = length-take-le m (replicate 128 0) (n .ensures .1) in
+    omega (arith, n .ensures .0, min-le-left (length (now (a .bytes)) / 4) 128)
 
 returns : tie.Need-returns
 unfolding checkedIn cellsIn
@@ -32,8 +32,8 @@ returns c =
     let a = c .before .before .before .before .before .before .before .args in
     let n = c .before .before .before .lent in
     let m = n .result in
-    let e : length {A = ℕ} (take m (replicate 64 0)) ≡ min (length (now (a .bytes)) / 4) 64 =
-    length-take-le m (replicate 64 0) (n .ensures .1) ∙ n .ensures .0 in
+    let e : length {A = ℕ} (take m (replicate 128 0)) ≡ min (length (now (a .bytes)) / 4) 128 =
+    length-take-le m (replicate 128 0) (n .ensures .1) ∙ n .ensures .0 in
     let job = jobWith (now (a .sheet)) (now (a .channels)) in
     c .before .check-into .ensures ∙ lent-checked job (cellIn (now (a .bytes))) (length (now (a .bytes)) / 4) _ e
 

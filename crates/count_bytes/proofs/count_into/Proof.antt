@@ -5,7 +5,7 @@ use mathlib.Core.Path.{ap, _∙_}
 use lib.ListN.{length}
 use Rattle.rules.specs.Job.{jobWith}
 use Rattle.setting.specs.Setting.{settingOf}
-use Rattle.work_words.specs.Layout.{workWords}
+use Rattle.sheet_rows.specs.Form.{mostWords}
 use Rattle.number_bytes.specs.NumberBytes.{numberBytes}
 use Rattle.byte_calls.proofs.Handed.{gives-handed}
 use Rattle.counting.specs.Outcome.{countingOutcome}
@@ -20,7 +20,7 @@ returns c =
     let a = n .before .before .before .before .before .before .before .before .before .before .before .args in
     let x = settingOf (a .options) (now (a .classes)) in
     let job = jobWith (now (a .sheet)) (now (a .channels)) in
-    let o = countingOutcome job x (length (now (a .cells))) (length (now (a .counts))) workWords in
+    let o = countingOutcome job x (length (now (a .cells))) (length (now (a .counts))) mostWords in
     record {
       handed = gives-handed {o = o .outcome} (n .count .ensures .given .gives) (c .number .ensures)
           (p .put-fours .ensures);

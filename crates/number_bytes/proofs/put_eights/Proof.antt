@@ -1,4 +1,4 @@
--- `number_bytes::put_eights` meets its contract: the first i bytes are those of the numbers.
+-- `number_bytes::put_eights` meets its contract: the first `at` bytes are those of the numbers.
 use borrow.Author.Needs.{needs}
 use denote.Ref.{now}
 use Prim.Native.Nat.{_≤_, _-_}
@@ -13,10 +13,11 @@ use Rattle.number_bytes.proofs.put_eights.Statement.{statement}
 use Rattle.number_bytes.proofs.put_eights.Tie as tie
 
 abbrev Inv-loop : tie.InvT-loop
-Inv-loop from to₀ i₀ to i = (i ≤ length to) × (length to ≡ length to₀) × (to ≡ tabulate i (byteAt 8 from) ++ drop i to₀)
+Inv-loop from to₀ at₀ to at =
+    (at ≤ length to) × (length to ≡ length to₀) × (to ≡ tabulate at (byteAt 8 from) ++ drop at to₀)
 
 abbrev μ-loop : tie.MeasureT-loop
-μ-loop from to₀ i₀ to i = length to - i
+μ-loop from to₀ at₀ to at = length to - at
 
 loop-holds : tie.Need-loop-holds Inv-loop μ-loop
 loop-holds c = (search needs, search needs, tab-none _ _)
@@ -37,7 +38,7 @@ returns : tie.Need-returns Inv-loop μ-loop
 unfolding numberBytes
 returns c =
     let l = c .before in
-    tab-done _ _ (byteAt 8 (now (l .before .before .before .args .from))) (l .loop .i) (omega arith) (l .loop .inv .2)
+    tab-done _ _ (byteAt 8 (now (l .before .before .before .args .from))) (l .loop .at) (omega arith) (l .loop .inv .2)
 
 pub put-eights-spec : {M : Type 1} → statement M
 put-eights-spec =

@@ -56,28 +56,33 @@ returns-3 c =
           (fine (i .before .before)) (okay i) (omega (arith, l .links-of .ensures .0, c .if2 .taken)),
     )
 
+words-for-requires : tie.Need-words-for-requires
+words-for-requires c κs = accepted _ (fine (c .before .before .before .before)) .head .long
+
 returns-4 : tie.Need-returns-4
 returns-4 c =
-    let e = c .before in
+    let e = c .before .before in
     let l = e .before in
     let i = l .before in
     let s = i .before .before .before .before .before .before .before in (
       lit< tt,
       λ on callers. cause-11 (job s) (settingWith on (s .args .options) callers) (s .args .cells) (s .args .words)
-          (fine (i .before .before)) (okay i) (omega (arith, l .links-of .ensures .0, e .if2 .left)) (c .if3 .taken),
+          (fine (i .before .before)) (okay i) (omega (arith, l .links-of .ensures .0, e .if2 .left))
+          (omega (arith, c .before .words-for .ensures, c .if3 .taken)),
     )
 
 returns-5 : tie.Need-returns-5
 returns-5 c =
     let t = c .before in
     let w = t .before in
-    let e = w .before in
+    let e = w .before .before in
     let l = e .before in
     let i = l .before in
     let s = i .before .before .before .before .before .before .before in (
       lit< tt,
       λ on callers. cause-17 (job s) (settingWith on (s .args .options) callers) (s .args .cells) (s .args .words)
-          (fine (i .before .before)) (okay i) (omega (arith, l .links-of .ensures .0, e .if2 .left)) (w .if3 .left)
+          (fine (i .before .before)) (okay i) (omega (arith, l .links-of .ensures .0, e .if2 .left))
+          (omega (arith, w .before .words-for .ensures, w .if3 .left))
           (sym (t .is-channel-list .ensures) ∙ not-true (t .is-channel-list .result) (c .if4 .taken)),
     )
 
@@ -85,14 +90,14 @@ returns-6 : tie.Need-returns-6
 returns-6 c =
     let t = c .before in
     let w = t .before in
-    let e = w .before in
+    let e = w .before .before in
     let l = e .before in
     let i = l .before in (
       omega (arith, l .links-of .ensures .0, e .if2 .left),
       λ on callers. record {
         sheet = fine (i .before .before);
         setting = okay i;
-        words = w .if3 .left;
+        words = omega (arith, w .before .words-for .ensures, w .if3 .left);
         channels = sym (t .is-channel-list .ensures) ∙ not-false (t .is-channel-list .result) (c .if4 .left);
       },
     )
@@ -109,6 +114,7 @@ first-cause-spec =
     returns-2
     links-of-requires
     returns-3
+    words-for-requires
     returns-4
     (λ c κs. search needs)
     returns-5

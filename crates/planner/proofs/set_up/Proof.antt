@@ -9,6 +9,7 @@ use Prim.Native.Nat.{ℕ}
 use native.Mathlib.Omega.{arith}
 use lib.Seq.{length-take-le}
 use Rattle.cliques.specs.declared.Place.{Place}
+use Rattle.wire.specs.Fields.{le32}
 use Rattle.sheet.proofs.Accepted.{accepted}
 use Rattle.rules.specs.Job.{Job}
 use Rattle.setting.specs.Setting.{settingOf, settingWith}
@@ -33,11 +34,17 @@ links-of-requires c κs = accepted _ (c .before .before .before .before .before 
 
 lay-out-requires : tie.Need-lay-out-requires
 lay-out-requires c κs =
-    let R = c .before .before .before .before .before .before .pre in
-    let h = accepted _ (R .sheet) .head in
+    let s = c .before .before .before .before .before .before in
+    let h = accepted _ (s .pre .sheet) .head in
     let k = c .links-of .ensures .0 in
     let n = c .before .freqs-of .ensures .0 in
-    (omega (arith, h .n-some), omega (arith, h .n-small), omega (arith, h .k-small), R .words)
+    record {
+      number = le32 (now (s .args .sheet)) 0;
+      some = omega (arith, h .n-some);
+      freqs = omega (arith, h .n-few);
+      links = omega (arith, h .k-few);
+      words = s .pre .words;
+    }
 
 array-borrow-prefix-built : tie.Need-array-borrow-prefix-built
 array-borrow-prefix-built c = omega (

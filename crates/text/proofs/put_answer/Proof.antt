@@ -27,8 +27,7 @@ put-link-lines-requires c κs =
     let s = v .before .before .before .before in
     let f = s .pre .1 (sym (v .verdict-number .ensures) ∙ l .before .if1 .taken) in
     let k = l .links-of .ensures in
-    let few = accepted _ (f .0) .head .k-small in
-    (p .put-line .ensures .1, omega (arith, f .1), omega arith)
+    (p .put-line .ensures .1, omega (arith, f .1), omega (arith, f .2))
 
 returns : tie.Need-returns
 unfolding ascii
@@ -39,7 +38,7 @@ returns c =
     let v = l .before .before in
     let s = v .before .before .before .before in
     let e = sym (v .verdict-number .ensures) ∙ l .before .if1 .taken in
-    let few = accepted _ (s .pre .1 e .0) .head .k-small in
+    let few = s .pre .1 e .2 in
     let k : l .links-of .result ≡ kOf (now (s .args .sheet)) = l .links-of .ensures .0 in
     found-holds _ _ e few (p .put-line .ensures .1) (s .pre .0) (p .put-line .ensures .0)
     (lines-done k (q .put-link-lines .ensures))

@@ -8,14 +8,16 @@ use Rattle.text.proofs.put_planned.Tie as tie
 
 put-answer-requires : tie.Need-put-answer-requires
 put-answer-requires c κs =
-    let p = c .before .before .before .before .before .before in
-    (search needs, λ e. let f = found-links _ _ _ _ (p .plan .ensures .gives) e in (f .0, omega arith))
+    let p = c .before .before .before .before .before .before in (
+      search needs,
+      λ e. let f = found-links _ _ _ _ (p .plan-hall .ensures .gives) e in (f .0, omega (arith, f .1), f .2),
+    )
 
 returns : tie.Need-returns
 returns c =
     let q = c .before .before in
     let p = q .before .before .before .before .before .before .before in
-    same-holds (given-text _ _ _ _ (p .plan .ensures .gives)) (q .put-answer .ensures)
+    same-holds (given-text _ _ _ _ (p .plan-hall .ensures .gives)) (q .put-answer .ensures)
 
 pub put-planned-spec : {M : Type 1} → statement M
 put-planned-spec =

@@ -9,7 +9,7 @@ use Rattle.graph_export.proofs.edges.next_neighbour.Statement.{statemen
 use Rattle.graph_export.proofs.edges.next_neighbour.Tie as tie
 
 -- the row lies in the words
-inside : (c : tie.After-row-at) → c .row-at .result + 8 ≤ length (now (c .before .before .args .part))
+inside : (c : tie.After-row-at) → c .row-at .result + 16 ≤ length (now (c .before .before .args .part))
 inside c = omega (arith, c .row-at .ensures .inside, c .before .before .pre .0 .inside)
 
 next-member-requires : tie.Need-next-member-requires

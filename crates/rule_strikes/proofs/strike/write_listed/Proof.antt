@@ -1,4 +1,5 @@
--- `rule_strikes::strike::write_listed` meets its contract. The invariant: the partners by the first i pair rows are written.
+-- `rule_strikes::strike::write_listed` meets its contract. The invariant: the partners by the first i pair rows are
+-- written.
 use borrow.Author.Needs.{needs}
 use Prim.Native.Nat.{_-_, _≤_}
 use mathlib.Core.Path.{_≡_}

@@ -1,5 +1,4 @@
 -- `work_words::places::lay_out` meets its contract, by the bounds of the rows.
-use borrow.Author.Needs.{needs}
 use mathlib.Core.Path.{refl}
 use native.Mathlib.Omega.{arith}
 use Rattle.work_words.proofs.Bounds.{bounds}
@@ -7,23 +6,23 @@ use Rattle.work_words.proofs.places.lay_out.Statement.{statement}
 use Rattle.work_words.proofs.places.lay_out.Tie as tie
 
 mul-rows : tie.Need-mul-rows
-mul-rows c = let b = bounds (c .args .n) (c .args .k) (c .pre .1) (c .pre .2) in record { fits = omega arith }
+mul-rows c = let b = bounds (c .args .n) (c .args .k) (c .args .len) (c .pre) in record { fits = omega arith }
 
 mul-class-rows : tie.Need-mul-class-rows
-mul-class-rows c = let b = bounds (c .args .n) (c .args .k) (c .pre .1) (c .pre .2) in record { fits = omega arith }
+mul-class-rows c = let b = bounds (c .args .n) (c .args .k) (c .args .len) (c .pre) in record { fits = omega arith }
 
 sub-graph : tie.Need-sub-graph
-sub-graph c = let b = bounds (c .args .n) (c .args .k) (c .pre .1) (c .pre .2) in omega arith
+sub-graph c = let b = bounds (c .args .n) (c .args .k) (c .args .len) (c .pre) in omega arith
 
 sub-layers : tie.Need-sub-layers
-sub-layers c = let b = bounds (c .args .n) (c .args .k) (c .pre .1) (c .pre .2) in omega arith
+sub-layers c = let b = bounds (c .args .n) (c .args .k) (c .args .len) (c .pre) in omega arith
 
 sub-masks : tie.Need-sub-masks
-sub-masks c = let b = bounds (c .args .n) (c .args .k) (c .pre .1) (c .pre .2) in omega arith
+sub-masks c = let b = bounds (c .args .n) (c .args .k) (c .args .len) (c .pre) in omega arith
 
 returns : tie.Need-returns
 returns c =
-    let b = bounds (c .args .n) (c .args .k) (c .pre .1) (c .pre .2) in
+    let b = bounds (c .args .n) (c .args .k) (c .args .len) (c .pre) in
     record {
       width = refl;
       wide = b .wide;
@@ -36,4 +35,13 @@ returns c =
     }
 
 pub lay-out-spec : {M : Type 1} → statement M
-lay-out-spec = tie.close (tie.spec (λ c. search needs) mul-rows mul-class-rows sub-graph sub-layers sub-masks returns)
+lay-out-spec =
+    tie.close
+    (tie.spec
+    (λ c. omega (arith, bounds (c .args .n) (c .args .k) (c .args .len) (c .pre)))
+    mul-rows
+    mul-class-rows
+    sub-graph
+    sub-layers
+    sub-masks
+    returns)
