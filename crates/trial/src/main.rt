@@ -1,9 +1,12 @@
 // The test program: the planner's calls beside the rows of its input, and beside a brute-force solver that is written
 // apart from the planner. It prints what it compared, and stops at the first difference.
+#![tactic(auto)]
+
 mod report;
 
-use libc::STDIN_FILENO;
+use input::read_full;
 use report::{item, number, text};
+use std::io;
 use trial_beside::small_sheets;
 use trial_heaviest::{HEAVIEST, heaviest_row};
 use trial_parts::kept::{
@@ -22,85 +25,91 @@ const LISTS: usize = 108;
 
 const RANDOM: usize = 114;
 
-fn print_nodes(kept: &[usize], choice: usize) {
+fn print_nodes(rt: &impl Print, kept: &[usize], choice: usize) -> io::Result<()> {
     let at = plus(NODE_SUMS, times(8, choice));
-    item(b"nodes under filter numbers 0 to 7, choice", choice);
-    text(b":");
+    item(rt, b"nodes under filter numbers 0 to 7, choice", choice)?;
+    text(rt, b":")?;
     let mut i = 0;
     while i < 8 {
-        number(get(kept, plus(at, i)));
+        number(rt, get(kept, plus(at, i)))?;
         i += 1;
     }
-    text(b"\n");
+    text(rt, b"\n")
 }
 
-fn print_small(kept: &[usize]) {
-    item(b"small sheets with a plan:", get(kept, WITH));
-    item(b"; with more than k greedy classes:", get(kept, LAYERED));
-    item(b"; with a refused class list:", get(kept, REFUSED));
-    text(b"\n");
-    item(b"with channels on air:", get(kept, AIRED));
-    item(b"; with a link left empty:", get(kept, EMPTIED));
-    text(b"\n");
+fn print_small(rt: &impl Print, kept: &[usize]) -> io::Result<()> {
+    item(rt, b"small sheets with a plan:", get(kept, WITH))?;
+    item(
+        rt,
+        b"; with more than k greedy classes:",
+        get(kept, LAYERED),
+    )?;
+    item(rt, b"; with a refused class list:", get(kept, REFUSED))?;
+    text(rt, b"\n")?;
+    item(rt, b"with channels on air:", get(kept, AIRED))?;
+    item(rt, b"; with a link left empty:", get(kept, EMPTIED))?;
+    text(rt, b"\n")
 }
 
-fn print_trees(kept: &[usize]) {
-    print_nodes(kept, 0);
-    print_nodes(kept, 1);
-    print_nodes(kept, 2);
+fn print_trees(rt: &impl Print, kept: &[usize]) -> io::Result<()> {
+    print_nodes(rt, kept, 0)?;
+    print_nodes(rt, kept, 1)?;
+    print_nodes(rt, kept, 2)
 }
 
 // `random`: so many small sheets beside the brute-force solver.
-fn random_row(kept: &mut [usize], m: usize) -> bool {
+fn random_row(rt: &impl Print, kept: &mut [usize], m: usize) -> io::Result<bool> {
     let mut counted = [0usize; ROOM];
-    if !small_sheets(&mut counted, m) {
-        return false;
+    if !small_sheets(rt, &mut counted, m)? {
+        return Ok(false);
     }
-    print_small(&counted);
-    print_trees(&counted);
+    print_small(rt, &counted)?;
+    print_trees(rt, &counted)?;
     put(kept, CALLS, get(&counted, CALLS));
     put(kept, FESTIVALS, get(&counted, FESTIVALS));
     put(kept, CHECKS, get(&counted, CHECKS));
     put(kept, SPARES, get(&counted, SPARES));
-    true
+    Ok(true)
 }
 
-fn print_part(words: &[u8], from: usize, end: usize) {
+fn print_part(rt: &impl Print, words: &[u8], from: usize, end: usize) -> io::Result<()> {
     if end < from {
-        return;
+        return Ok(());
     }
     if words.len() < end {
-        return;
+        return Ok(());
     }
-    text(&words[from..end]);
+    text(rt, &words[from..end])
 }
 
-fn print_calls(kept: &[usize]) {
-    item(b"; calls of planning:", get(kept, CALLS));
-    print_some(b", of these again with form 3:", get(kept, FESTIVALS));
-    item(b", of the check:", get(kept, CHECKS));
-    item(b", for the spares:", get(kept, SPARES));
-    print_some(b", for heaviest jobs:", get(kept, HEAVIEST));
-    text(b"\n");
+fn print_calls(rt: &impl Print, kept: &[usize]) -> io::Result<()> {
+    item(rt, b"; calls of planning:", get(kept, CALLS))?;
+    print_some(rt, b", of these again with form 3:", get(kept, FESTIVALS))?;
+    item(rt, b", of the check:", get(kept, CHECKS))?;
+    item(rt, b", for the spares:", get(kept, SPARES))?;
+    print_some(rt, b", for heaviest jobs:", get(kept, HEAVIEST))?;
+    text(rt, b"\n")
 }
 
-fn print_some(words: &[u8], m: usize) {
+fn print_some(rt: &impl Print, words: &[u8], m: usize) -> io::Result<()> {
     if m != 0 {
-        item(words, m);
+        item(rt, words, m)?;
     }
+    Ok(())
 }
 
 // A line that begins with `=`: its text, and the calls since the last such line.
-fn print_line(words: &[u8], kept: &mut [usize]) {
+fn print_line(rt: &impl Print, words: &[u8], kept: &mut [usize]) -> io::Result<()> {
     let from = next(kept);
-    print_part(words, from, line_end(words, from));
-    print_calls(kept);
+    print_part(rt, words, from, line_end(words, from))?;
+    print_calls(rt, kept)?;
     put(kept, CALLS, 0);
     put(kept, FESTIVALS, 0);
     put(kept, CHECKS, 0);
     put(kept, SPARES, 0);
     put(kept, HEAVIEST, 0);
     put(kept, ROWS, 0);
+    Ok(())
 }
 
 fn read_list(kept: &mut [usize]) {
@@ -110,63 +119,63 @@ fn read_list(kept: &mut [usize]) {
 }
 
 // A row. Says whether all was as wanted.
-fn row(kept: &mut [usize], word: usize) -> bool {
+fn row(rt: &impl Print, kept: &mut [usize], word: usize) -> io::Result<bool> {
     if reads_job(kept, word) {
-        return true;
+        return Ok(true);
     }
     if word == LISTS {
         read_list(kept);
-        return true;
+        return Ok(true);
     }
     if word == HEAVY {
-        return heaviest_row(kept);
+        return heaviest_row(rt, kept);
     }
     if word == RANDOM {
         let m = next(kept);
-        return random_row(kept, m);
+        return random_row(rt, kept, m);
     }
-    row_on_sheet(kept, word)
+    row_on_sheet(rt, kept, word)
 }
 
 // A row, or a line to print.
-fn row_or_line(words: &[u8], kept: &mut [usize]) -> bool {
+fn row_or_line(rt: &impl Print, words: &[u8], kept: &mut [usize]) -> io::Result<bool> {
     let word = next(kept);
     if word == EQUALS {
-        print_line(words, kept);
-        return true;
+        print_line(rt, words, kept)?;
+        return Ok(true);
     }
     more(kept, ROWS);
-    row(kept, word)
+    row(rt, kept, word)
 }
 
 // The rows of an input of m words and numbers, up to a difference.
-fn rows_of(words: &[u8], kept: &mut [usize], m: usize) -> bool {
+fn rows_of(rt: &impl Print, words: &[u8], kept: &mut [usize], m: usize) -> io::Result<bool> {
     let mut i = 0;
     while i < m {
         if m <= get(kept, AT) {
-            return true;
+            return Ok(true);
         }
-        if !row_or_line(words, kept) {
-            return false;
+        if !row_or_line(rt, words, kept)? {
+            return Ok(false);
         }
         i += 1;
     }
-    true
+    Ok(true)
 }
 
-fn run(words: &[u8], kept: &mut [usize]) {
+fn run(rt: &impl Print, words: &[u8], kept: &mut [usize]) -> io::Result<()> {
     let m = read(words, kept);
-    if rows_of(words, kept, m) {
-        text(b"no difference\n");
-        return;
+    if rows_of(rt, words, kept, m)? {
+        text(rt, b"no difference\n")?;
+        return Ok(());
     }
-    item(b"stopped in row", get(kept, ROWS));
-    text(b" after the last line\n");
+    item(rt, b"stopped in row", get(kept, ROWS))?;
+    text(rt, b" after the last line\n")
 }
 
-fn main() {
+fn main(rt: HostRuntime) -> io::Result<()> {
     let mut words = [0u8; 98304];
     let mut kept = [0usize; ROOM];
-    let n = io::read_full(STDIN_FILENO, &mut words);
-    run(first_bytes(&words, n), &mut kept);
+    let n = read_full(&mut rt.stdin(), &mut words)?;
+    run(&rt, first_bytes(&words, n), &mut kept)
 }

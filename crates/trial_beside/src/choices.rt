@@ -1,6 +1,7 @@
 // A job's sheet under every filter number and choice, beside the brute-force solver.
 ghost use Rattle.std.specs.Prelude.{◌≡◌, length};
 
+use std::io;
 use trial_calls::{ANY, MOST, checks, plans, under_filters, want};
 use trial_job::{codes, filled, first_plan, pairs_kept, pick, placed, put_greedy, put_layers};
 use trial_parts::kept::{CHOICE, EMPTIED, K, LAYERED, N, PLAN, REFUSED, WITH};
@@ -67,24 +68,31 @@ fn count_sheet(kept: &mut [usize], number: usize, known: usize) {
 
 // One choice: the partition is `classes`, and the caller lends `callers`.
 fn under_choice(
+    rt: &impl Print,
     kept: &mut [usize],
     graph: &[usize],
     sheet: &[u8],
     classes: &[u8],
     callers: &[u8],
-) -> bool {
+) -> io::Result<bool> {
     let number = wanted(kept, graph, classes);
     let known = known_nodes(kept, graph, classes);
     count_sheet(kept, number, known);
-    under_filters(kept, sheet, callers, number, known)
+    under_filters(rt, kept, sheet, callers, number, known)
 }
 
 // Choice 0.
-fn under_layers(kept: &mut [usize], graph: &[usize], sheet: &[u8], callers: &[u8]) -> bool {
+fn under_layers(
+    rt: &impl Print,
+    kept: &mut [usize],
+    graph: &[usize],
+    sheet: &[u8],
+    callers: &[u8],
+) -> io::Result<bool> {
     let mut list = [0u8; 40];
     put(kept, CHOICE, 0);
     put_layers(graph, get(kept, N), get(kept, K), 0, &mut list);
-    under_choice(kept, graph, sheet, &list, callers)
+    under_choice(rt, kept, graph, sheet, &list, callers)
 }
 
 fn put_classes(kept: &mut [usize], graph: &[usize], list: &mut [u8]) {
@@ -95,11 +103,17 @@ fn put_classes(kept: &mut [usize], graph: &[usize], list: &mut [u8]) {
 }
 
 // Choice 1.
-fn under_greedy(kept: &mut [usize], graph: &[usize], sheet: &[u8], callers: &[u8]) -> bool {
+fn under_greedy(
+    rt: &impl Print,
+    kept: &mut [usize],
+    graph: &[usize],
+    sheet: &[u8],
+    callers: &[u8],
+) -> io::Result<bool> {
     let mut list = [255u8; 40];
     put(kept, CHOICE, 1);
     put_classes(kept, graph, &mut list);
-    under_choice(kept, graph, sheet, &list, callers)
+    under_choice(rt, kept, graph, sheet, &list, callers)
 }
 
 // Whether a list of the caller is a partition of the vertices in classes below k.
@@ -112,53 +126,76 @@ fn is_partition(kept: &[usize], graph: &[usize], list: &[u8]) -> bool {
 }
 
 // Choice 2, with a list that may be no partition.
-fn under_callers(kept: &mut [usize], graph: &[usize], sheet: &[u8], callers: &[u8]) -> bool {
+fn under_callers(
+    rt: &impl Print,
+    kept: &mut [usize],
+    graph: &[usize],
+    sheet: &[u8],
+    callers: &[u8],
+) -> io::Result<bool> {
     put(kept, CHOICE, 2);
     if is_partition(kept, graph, callers) {
-        return under_choice(kept, graph, sheet, callers, callers);
+        return under_choice(rt, kept, graph, sheet, callers, callers);
     }
     more(kept, REFUSED);
     want(kept, MOST, 12, 0);
-    plans(kept, sheet, callers)
+    plans(rt, kept, sheet, callers)
 }
 
 // An assignment: the check says yes exactly if it keeps every rule.
-fn check_code(job: &mut [usize], graph: &[usize], sheet: &[u8], code: usize) -> bool {
+fn check_code(
+    rt: &impl Print,
+    job: &mut [usize],
+    graph: &[usize],
+    sheet: &[u8],
+    code: usize,
+) -> io::Result<bool> {
     let mut picks = [0usize; 8];
     let mut cells = [0u32; 8];
     pick(job, code, &mut picks);
     put_cells(job, &picks, &mut cells);
     if pairs_kept(graph, get(job, K), &picks) == 64 {
-        return checks(job, sheet, &cells, 100);
+        return checks(rt, job, sheet, &cells, 100);
     }
-    checks(job, sheet, &cells, 0)
+    checks(rt, job, sheet, &cells, 0)
 }
 
 // All assignments.
-fn check_codes(job: &mut [usize], graph: &[usize], sheet: &[u8]) -> bool {
+fn check_codes(
+    rt: &impl Print,
+    job: &mut [usize],
+    graph: &[usize],
+    sheet: &[u8],
+) -> io::Result<bool> {
     let end = codes(job);
     let mut code = 0;
     while code < end {
-        if !check_code(job, graph, sheet, code) {
-            return false;
+        if !check_code(rt, job, graph, sheet, code)? {
+            return Ok(false);
         }
         code += 1;
     }
-    true
+    Ok(true)
 }
 
 // All three choices, and the check.
-pub fn beside(job: &mut [usize], graph: &[usize], sheet: &[u8], callers: &[u8]) -> bool
+pub fn beside(
+    rt: &impl Print,
+    job: &mut [usize],
+    graph: &[usize],
+    sheet: &[u8],
+    callers: &[u8],
+) -> io::Result<bool>
     ensures { length job.new ≡ length job.old }
 {
-    if !under_layers(job, graph, sheet, callers) {
-        return false;
+    if !under_layers(rt, job, graph, sheet, callers)? {
+        return Ok(false);
     }
-    if !under_greedy(job, graph, sheet, callers) {
-        return false;
+    if !under_greedy(rt, job, graph, sheet, callers)? {
+        return Ok(false);
     }
-    if !under_callers(job, graph, sheet, callers) {
-        return false;
+    if !under_callers(rt, job, graph, sheet, callers)? {
+        return Ok(false);
     }
-    check_codes(job, graph, sheet)
+    check_codes(rt, job, graph, sheet)
 }

@@ -2,15 +2,21 @@
 ghost use Rattle.std.specs.Prelude.{◌≡◌, length};
 
 use crate::choices::beside;
+use std::io;
 use trial_job::{fill, make_channels, make_job, make_list};
 use trial_parts::kept::{AIRED, CELLS, ON_AIR, SEED};
 use trial_parts::{encode, first_bytes, get, more, put};
 
 // The job's sheet beside the brute-force solver, with a list of the sequence.
-fn listed_beside(job: &mut [usize], graph: &[usize], sheet: &[u8]) -> bool {
+fn listed_beside(
+    rt: &impl Print,
+    job: &mut [usize],
+    graph: &[usize],
+    sheet: &[u8],
+) -> io::Result<bool> {
     let mut list = [0u8; 40];
     let m = make_list(job, graph, &mut list);
-    beside(job, graph, sheet, first_bytes(&list, m))
+    beside(rt, job, graph, sheet, first_bytes(&list, m))
 }
 
 // The next job of the sequence, with its channels on air.
@@ -23,26 +29,26 @@ fn make_next(job: &mut [usize]) {
 }
 
 // One job of the sequence.
-fn small_sheet(job: &mut [usize]) -> bool {
+fn small_sheet(rt: &impl Print, job: &mut [usize]) -> io::Result<bool> {
     let mut sheet = [0u8; 1200];
     let mut graph = [0usize; CELLS];
     make_next(job);
     fill(job, &mut graph);
     let length = encode(job, &mut sheet);
-    listed_beside(job, &graph, first_bytes(&sheet, length))
+    listed_beside(rt, job, &graph, first_bytes(&sheet, length))
 }
 
 // So many sheets, up to a difference.
-pub fn small_sheets(job: &mut [usize], m: usize) -> bool
+pub fn small_sheets(rt: &impl Print, job: &mut [usize], m: usize) -> io::Result<bool>
     ensures { length job.new ≡ length job.old }
 {
     put(job, SEED, 1);
     let mut i = 0;
     while i < m {
-        if !small_sheet(job) {
-            return false;
+        if !small_sheet(rt, job)? {
+            return Ok(false);
         }
         i += 1;
     }
-    true
+    Ok(true)
 }

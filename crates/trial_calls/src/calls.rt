@@ -1,10 +1,11 @@
 // Calls of the planner and of the check beside what is wanted of them. A difference is printed.
-ghost use Rattle.std.specs.Prelude.{◌≡◌, ◌+◌, ◌%◌, ◌^◌, eqb, get_or, length, set};
+ghost use Rattle.std.specs.Prelude.{◌≡◌, ◌≢◌, ◌+◌, ◌%◌, ◌^◌, IfOk, OnErr, eqb, get_or, length, set};
 ghost use Rattle.rules.specs.Job.{job_with};
 ghost use Rattle.rules.specs.Plans.{checked};
 
 use crate::report::line;
 use setting::Options;
+use std::io;
 use trial_parts::kept::{
     CALLS, CHANNELS, CHECKS, CHOICE, FILTER, LIMIT, NODES, NUMBER, ON_AIR, PLAN, WANTED,
 };
@@ -105,20 +106,27 @@ fn is_as_wanted(kept: &[usize], number: usize, cells: &[u32]) -> bool {
     holds_plan(kept, cells, number == 100)
 }
 
-fn print_difference(kept: &[usize], number: usize, cells: &[u32]) {
+fn print_difference(
+    rt: &impl Print,
+    kept: &[usize],
+    number: usize,
+    cells: &[u32],
+) -> io::Result<()> {
     line(
+        rt,
         b"difference under filter, choice, limit",
         get(kept, FILTER),
         get(kept, CHOICE),
         get(kept, LIMIT),
-    );
+    )?;
     line(
+        rt,
         b"wanted number, nodes, first cell",
         get(kept, NUMBER),
         get(kept, WANTED),
         get(kept, PLAN),
-    );
-    line(b"got", number, get(kept, NODES), get_cell(cells, 0));
+    )?;
+    line(rt, b"got", number, get(kept, NODES), get_cell(cells, 0))
 }
 
 // The number of the plan check's answer.
@@ -129,25 +137,40 @@ fn check_of(sheet: &[u8], channels: &[u8], cells: &[u32]) -> usize
 }
 
 // Whether the plan check with the channels on air gives the number wanted.
-fn checks_on(sheet: &[u8], channels: &[u8], cells: &[u32], number: usize) -> bool
-    ensures { result ≡
-        eqb (checked (job_with sheet.now channels.now) cells.now) number }
+fn checks_on(
+    rt: &impl Print,
+    sheet: &[u8],
+    channels: &[u8],
+    cells: &[u32],
+    number: usize,
+) -> io::Result<bool>
+    ensures ok { IfOk result (λ r. r ≡
+        eqb (checked (job_with sheet.now channels.now) cells.now) number) }
+    ensures err { OnErr result
+        (checked (job_with sheet.now channels.now) cells.now ≢ number) }
 {
     let got = check_of(sheet, channels, cells);
     if got == number {
-        return true;
+        return Ok(true);
     }
     line(
+        rt,
         b"difference: check, wanted, first cell",
         got,
         number,
         get_cell(cells, 0),
-    );
-    false
+    )?;
+    Ok(false)
 }
 
 // The same with the channels of the job.
-fn is_checked(kept: &mut [usize], sheet: &[u8], cells: &[u32], number: usize) -> bool
+fn is_checked(
+    rt: &impl Print,
+    kept: &mut [usize],
+    sheet: &[u8],
+    cells: &[u32],
+    number: usize,
+) -> io::Result<bool>
     ensures { kept.new ≡
         set kept.old 2 ((get_or kept.old 2 0 + 1) % 2 ^ 64) }
 {
@@ -155,6 +178,7 @@ fn is_checked(kept: &mut [usize], sheet: &[u8], cells: &[u32], number: usize) ->
     put_bytes(kept, CHANNELS, &mut channels);
     more(kept, CHECKS);
     checks_on(
+        rt,
         sheet,
         first_bytes(&channels, get(kept, ON_AIR)),
         cells,
@@ -163,60 +187,79 @@ fn is_checked(kept: &mut [usize], sheet: &[u8], cells: &[u32], number: usize) ->
 }
 
 // The same; and the call for a rack display gives that number too, with the table of the job.
-pub fn checks(kept: &mut [usize], sheet: &[u8], cells: &[u32], number: usize) -> bool
+pub fn checks(
+    rt: &impl Print,
+    kept: &mut [usize],
+    sheet: &[u8],
+    cells: &[u32],
+    number: usize,
+) -> io::Result<bool>
     ensures { length kept.new ≡ length kept.old }
 {
-    if !is_checked(kept, sheet, cells, number) {
-        return false;
+    if !is_checked(rt, kept, sheet, cells, number)? {
+        return Ok(false);
     }
-    shows(kept, sheet, cells, number)
+    shows(rt, kept, sheet, cells, number)
 }
 
 // Whether a planning call in these cells and words gives the number and the nodes wanted, the plan where it is found,
 // zeros in all other cells, and zero work words; and the check says yes to a plan that is found.
 pub fn plans_in(
+    rt: &impl Print,
     kept: &mut [usize],
     sheet: &[u8],
     callers: &[u8],
     cells: &mut [u32],
     work: &mut [u64],
-) -> bool
+) -> io::Result<bool>
     ensures { length kept.new ≡ length kept.old }
 {
     more(kept, CALLS);
     let number = ask(kept, sheet, callers, cells, work);
     if !is_as_wanted(kept, number, cells) {
-        print_difference(kept, number, cells);
-        return false;
+        print_difference(rt, kept, number, cells)?;
+        return Ok(false);
     }
     if !all_zero(work) {
-        return false;
+        return Ok(false);
     }
     if number != 100 {
-        return true;
+        return Ok(true);
     }
-    is_checked(kept, sheet, cells, 100)
+    is_checked(rt, kept, sheet, cells, 100)
 }
 
 // The same in the words of form 3.
-fn plans_festival(kept: &mut [usize], sheet: &[u8], callers: &[u8], cells: &mut [u32]) -> bool {
+fn plans_festival(
+    rt: &impl Print,
+    kept: &mut [usize],
+    sheet: &[u8],
+    callers: &[u8],
+    cells: &mut [u32],
+) -> io::Result<bool> {
     let mut work = [7u64; 32768];
-    plans_in(kept, sheet, callers, cells, &mut work)
+    plans_in(rt, kept, sheet, callers, cells, &mut work)
 }
 
 // The same in the words of forms 1 and 2.
-fn plans_hall(kept: &mut [usize], sheet: &[u8], callers: &[u8], cells: &mut [u32]) -> bool {
+fn plans_hall(
+    rt: &impl Print,
+    kept: &mut [usize],
+    sheet: &[u8],
+    callers: &[u8],
+    cells: &mut [u32],
+) -> io::Result<bool> {
     let mut work = [7u64; 8192];
-    plans_in(kept, sheet, callers, cells, &mut work)
+    plans_in(rt, kept, sheet, callers, cells, &mut work)
 }
 
 // The same in cells of its own and in the words of the form, which are not zero before.
-pub fn plans(kept: &mut [usize], sheet: &[u8], callers: &[u8]) -> bool
+pub fn plans(rt: &impl Print, kept: &mut [usize], sheet: &[u8], callers: &[u8]) -> io::Result<bool>
     ensures { length kept.new ≡ length kept.old }
 {
     let mut cells = [7u32; 136];
     if get_byte(sheet, 0) == 3 {
-        return plans_festival(kept, sheet, callers, &mut cells);
+        return plans_festival(rt, kept, sheet, callers, &mut cells);
     }
-    plans_hall(kept, sheet, callers, &mut cells)
+    plans_hall(rt, kept, sheet, callers, &mut cells)
 }

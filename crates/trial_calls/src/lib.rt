@@ -1,5 +1,7 @@
 // Calls of the test program: the planner and the plan check beside what is wanted of them, one by one and under every
 // filter number. A difference is printed.
+#![tactic(auto)]
+
 mod calls;
 mod report;
 mod trees;

@@ -1,16 +1,15 @@
 // What is printed of a difference.
-use libc::STDOUT_FILENO;
+use std::io;
 
-fn number(n: usize) {
-    io::write_all(STDOUT_FILENO, b" ");
-    io::print_decimal(STDOUT_FILENO, n as u64);
+fn number(rt: &impl Print, n: usize) -> io::Result<()> {
+    print!(rt; " {n}")
 }
 
 // A line of a text and three numbers.
-pub fn line(words: &[u8], a: usize, b: usize, c: usize) {
-    io::write_all(STDOUT_FILENO, words);
-    number(a);
-    number(b);
-    number(c);
-    io::write_all(STDOUT_FILENO, b"\n");
+pub fn line(rt: &impl Print, words: &[u8], a: usize, b: usize, c: usize) -> io::Result<()> {
+    rt.write_all(words)?;
+    number(rt, a)?;
+    number(rt, b)?;
+    number(rt, c)?;
+    rt.write_all(b"\n")
 }

@@ -3,6 +3,7 @@ ghost use Rattle.std.specs.Prelude.{◌≡◌, ◌<◌, length};
 
 use crate::calls::{plans, want};
 use crate::report::line;
+use std::io;
 use trial_parts::kept::{CHOICE, FESTIVALS, FILTER, NODE_SUMS, NODES, SIZES};
 use trial_parts::{
     copy_bytes, either, first_bytes, get, get_byte, less, more, plus, put, put_byte, times,
@@ -13,25 +14,26 @@ pub const MOST: usize = 1000000000;
 
 // A limit as large as the tree gives the same answer, and one less stops it.
 fn meets_limits(
+    rt: &impl Print,
     kept: &mut [usize],
     sheet: &[u8],
     callers: &[u8],
     number: usize,
     nodes: usize,
-) -> bool {
+) -> io::Result<bool> {
     if nodes == 0 {
-        return true;
+        return Ok(true);
     }
     want(kept, nodes, number, nodes);
-    if !plans(kept, sheet, callers) {
-        return false;
+    if !plans(rt, kept, sheet, callers)? {
+        return Ok(false);
     }
     if nodes == 1 {
-        return true;
+        return Ok(true);
     }
     let under = less(nodes, 1);
     want(kept, under, 102, under);
-    plans(kept, sheet, callers)
+    plans(rt, kept, sheet, callers)
 }
 
 // Keeps the size of the tree under the filter number, and adds it to the sum.
@@ -44,60 +46,63 @@ fn keep_size(kept: &mut [usize], filter: usize, nodes: usize) {
 
 // A sheet of form 2 gives the same answer, plan and nodes with form 3 in its header, and a limit as large as the tree.
 fn agrees_as_festival(
+    rt: &impl Print,
     kept: &mut [usize],
     sheet: &[u8],
     callers: &[u8],
     number: usize,
     nodes: usize,
-) -> bool {
+) -> io::Result<bool> {
     let mut other = [0u8; 1200];
     if get_byte(sheet, 0) != 2 {
-        return true;
+        return Ok(true);
     }
     copy_bytes(sheet, &mut other);
     put_byte(&mut other, 0, 3);
     more(kept, FESTIVALS);
     want(kept, either(nodes == 0, MOST, nodes), number, nodes);
-    plans(kept, first_bytes(&other, sheet.len()), callers)
+    plans(rt, kept, first_bytes(&other, sheet.len()), callers)
 }
 
 // One filter number: verdict, plan and nodes, then form 3 in the header, and the limits around the tree's size.
 fn under_filter(
+    rt: &impl Print,
     kept: &mut [usize],
     sheet: &[u8],
     callers: &[u8],
     filter: usize,
     number: usize,
     known: usize,
-) -> bool {
+) -> io::Result<bool> {
     put(kept, FILTER, filter);
     want(kept, MOST, number, known);
-    if !plans(kept, sheet, callers) {
-        return false;
+    if !plans(rt, kept, sheet, callers)? {
+        return Ok(false);
     }
     let nodes = get(kept, NODES);
     keep_size(kept, filter, nodes);
-    if !agrees_as_festival(kept, sheet, callers, number, nodes) {
-        return false;
+    if !agrees_as_festival(rt, kept, sheet, callers, number, nodes)? {
+        return Ok(false);
     }
-    meets_limits(kept, sheet, callers, number, nodes)
+    meets_limits(rt, kept, sheet, callers, number, nodes)
 }
 
 fn each_filter(
+    rt: &impl Print,
     kept: &mut [usize],
     sheet: &[u8],
     callers: &[u8],
     number: usize,
     known: usize,
-) -> bool {
+) -> io::Result<bool> {
     let mut filter = 0;
     while filter < 8 {
-        if !under_filter(kept, sheet, callers, filter, number, known) {
-            return false;
+        if !under_filter(rt, kept, sheet, callers, filter, number, known)? {
+            return Ok(false);
         }
         filter += 1;
     }
-    true
+    Ok(true)
 }
 
 // Whether the tree of a filter number is no larger than that with the filter of weight w left out.
@@ -131,25 +136,27 @@ fn sizes_fall(kept: &[usize]) -> bool {
 // All filter numbers: the number wanted, and the nodes that are known of every tree, or `ANY`. No tree grows as a
 // filter is added.
 pub fn under_filters(
+    rt: &impl Print,
     kept: &mut [usize],
     sheet: &[u8],
     callers: &[u8],
     number: usize,
     known: usize,
-) -> bool
+) -> io::Result<bool>
     ensures { length kept.new ≡ length kept.old }
 {
-    if !each_filter(kept, sheet, callers, number, known) {
-        return false;
+    if !each_filter(rt, kept, sheet, callers, number, known)? {
+        return Ok(false);
     }
     if sizes_fall(kept) {
-        return true;
+        return Ok(true);
     }
     line(
+        rt,
         b"difference: nodes rise as filters are added under choice",
         get(kept, CHOICE),
         0,
         0,
-    );
-    false
+    )?;
+    Ok(false)
 }

@@ -1,5 +1,7 @@
 // Rows of the test program of the counts on a job's sheet: what the counting call gives is printed, or compared. Its
 // printing, too.
+#![tactic(auto)]
+
 mod on_sheet;
 mod report;
 

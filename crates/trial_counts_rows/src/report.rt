@@ -1,17 +1,16 @@
 // What the program prints.
-use libc::STDOUT_FILENO;
+use std::io;
 
-pub fn text(words: &[u8]) {
-    io::write_all(STDOUT_FILENO, words);
+pub fn text(rt: &impl Print, words: &[u8]) -> io::Result<()> {
+    rt.write_all(words)
 }
 
-pub fn number(n: u64) {
-    text(b" ");
-    io::print_decimal(STDOUT_FILENO, n);
+pub fn number(rt: &impl Print, n: u64) -> io::Result<()> {
+    print!(rt; " {n}")
 }
 
 // A text and a number.
-pub fn item(words: &[u8], n: usize) {
-    text(words);
-    number(n as u64);
+pub fn item(rt: &impl Print, words: &[u8], n: usize) -> io::Result<()> {
+    text(rt, words)?;
+    number(rt, n as u64)
 }

@@ -3,6 +3,7 @@ ghost use Rattle.std.specs.Prelude.{◌≡◌, length};
 
 use crate::apart::make_heaviest;
 use heaviest::{HeaviestSheet, heaviest, heaviest_number};
+use std::io;
 use trial_parts::{encode, first_bytes, more, narrow, next};
 use trial_texts_calls::is_same;
 use trial_texts_parts::{fill_bytes, first_difference};
@@ -17,32 +18,35 @@ fn call_over(kept: &mut [usize], k: usize, m: usize, buffer: &mut [u8]) -> Heavi
 }
 
 // Whether an answer says a number and a length.
-fn says(h: HeaviestSheet, number: usize, length: usize) -> bool {
+fn says(rt: &impl Print, h: HeaviestSheet, number: usize, length: usize) -> io::Result<bool> {
     let answer = h.answer;
     if !is_same(
+        rt,
         b"number of the heaviest job",
         heaviest_number(answer) as usize,
         number,
-    ) {
-        return false;
+    )? {
+        return Ok(false);
     }
-    is_same(b"length of the heaviest job", h.length, length)
+    is_same(rt, b"length of the heaviest job", h.length, length)
 }
 
 // Whether the call says a number and writes the bytes wanted, with zeros after them.
 fn gives(
+    rt: &impl Print,
     kept: &mut [usize],
     k: usize,
     m: usize,
     buffer: &mut [u8],
     number: usize,
     wanted: &[u8],
-) -> bool {
+) -> io::Result<bool> {
     let h = call_over(kept, k, m, buffer);
-    if !says(h, number, wanted.len()) {
-        return false;
+    if !says(rt, h, number, wanted.len())? {
+        return Ok(false);
     }
     is_same(
+        rt,
         b"first byte of the heaviest job that is another",
         first_difference(buffer, wanted),
         buffer.len(),
@@ -51,6 +55,7 @@ fn gives(
 
 // The same in the first bytes of a buffer.
 fn gives_first(
+    rt: &impl Print,
     kept: &mut [usize],
     k: usize,
     m: usize,
@@ -58,42 +63,49 @@ fn gives_first(
     room: usize,
     number: usize,
     wanted: &[u8],
-) -> bool {
+) -> io::Result<bool> {
     if buffer.len() < room {
-        return false;
+        return Ok(false);
     }
-    gives(kept, k, m, &mut buffer[0..room], number, wanted)
+    gives(rt, kept, k, m, &mut buffer[0..room], number, wanted)
 }
 
 // The same in a buffer of 65,536 bytes, and in a longer one; and 18 in one that is a byte too short.
-fn gives_all(kept: &mut [usize], k: usize, m: usize, number: usize, wanted: &[u8]) -> bool {
+fn gives_all(
+    rt: &impl Print,
+    kept: &mut [usize],
+    k: usize,
+    m: usize,
+    number: usize,
+    wanted: &[u8],
+) -> io::Result<bool> {
     let mut buffer = [0u8; 65600];
-    if !gives_first(kept, k, m, &mut buffer, 65535, 18, b"") {
-        return false;
+    if !gives_first(rt, kept, k, m, &mut buffer, 65535, 18, b"")? {
+        return Ok(false);
     }
-    if !gives_first(kept, k, m, &mut buffer, 65536, number, wanted) {
-        return false;
+    if !gives_first(rt, kept, k, m, &mut buffer, 65536, number, wanted)? {
+        return Ok(false);
     }
-    gives(kept, k, m, &mut buffer, number, wanted)
+    gives(rt, kept, k, m, &mut buffer, number, wanted)
 }
 
 // The call beside the sheet formed apart.
-fn beside_apart(kept: &mut [usize], k: usize, m: usize) -> bool {
+fn beside_apart(rt: &impl Print, kept: &mut [usize], k: usize, m: usize) -> io::Result<bool> {
     let mut sheet = [0u8; 60000];
     make_heaviest(kept, k, m);
     let length = encode(kept, &mut sheet);
-    gives_all(kept, k, m, 0, first_bytes(&sheet, length))
+    gives_all(rt, kept, k, m, 0, first_bytes(&sheet, length))
 }
 
 // `heaviest`: k, m, and the number of the answer.
-pub fn heaviest_row(kept: &mut [usize]) -> bool
+pub fn heaviest_row(rt: &impl Print, kept: &mut [usize]) -> io::Result<bool>
     ensures { length kept.new ≡ length kept.old }
 {
     let k = next(kept);
     let m = next(kept);
     let number = next(kept);
     if number == 0 {
-        return beside_apart(kept, k, m);
+        return beside_apart(rt, kept, k, m);
     }
-    gives_all(kept, k, m, number, b"")
+    gives_all(rt, kept, k, m, number, b"")
 }

@@ -1,4 +1,6 @@
 // The rows of the test program with a heaviest job: the call that writes it beside the sheet formed apart.
+#![tactic(auto)]
+
 mod apart;
 mod calls;
 

@@ -1,6 +1,7 @@
 // The rows on a sheet. Each says whether all was as wanted.
 ghost use Rattle.std.specs.Prelude.{◌≡◌, length};
 
+use std::io;
 use trial_beside::beside;
 use trial_calls::{ACCEPTED, ANY, checks, plans, plans_in};
 use trial_job::fill;
@@ -31,42 +32,53 @@ const WITHIN: usize = 119;
 const YIELDS: usize = 121;
 
 // One filter number of a row `plan`.
-fn plan_under(kept: &mut [usize], sheet: &[u8], list: &[u8], filter: usize) -> bool {
+fn plan_under(
+    rt: &impl Print,
+    kept: &mut [usize],
+    sheet: &[u8],
+    list: &[u8],
+    filter: usize,
+) -> io::Result<bool> {
     let nodes = next(kept);
     if nodes == SKIP {
-        return true;
+        return Ok(true);
     }
     put(kept, FILTER, filter);
     put(kept, WANTED, nodes);
-    plans(kept, sheet, list)
+    plans(rt, kept, sheet, list)
 }
 
-fn plan_filters(kept: &mut [usize], sheet: &[u8], list: &[u8]) -> bool {
+fn plan_filters(
+    rt: &impl Print,
+    kept: &mut [usize],
+    sheet: &[u8],
+    list: &[u8],
+) -> io::Result<bool> {
     let mut filter = 0;
     while filter < 8 {
-        if !plan_under(kept, sheet, list, filter) {
-            return false;
+        if !plan_under(rt, kept, sheet, list, filter)? {
+            return Ok(false);
         }
         filter += 1;
     }
-    true
+    Ok(true)
 }
 
 // `plan`: choice, limit, the number of the answer, four plan cells, and the nodes under each filter number.
-fn plan_row(kept: &mut [usize], sheet: &[u8], list: &[u8]) -> bool {
+fn plan_row(rt: &impl Print, kept: &mut [usize], sheet: &[u8], list: &[u8]) -> io::Result<bool> {
     want_firsts(kept, 0);
     next_run(kept, CHOICE, 3);
     next_run(kept, PLAN, 4);
-    plan_filters(kept, sheet, list)
+    plan_filters(rt, kept, sheet, list)
 }
 
 // `yields`: choice, limit, the number of the answer, how many links take their first frequency, the others none, and
 // the nodes under each filter number.
-fn yields_row(kept: &mut [usize], sheet: &[u8], list: &[u8]) -> bool {
+fn yields_row(rt: &impl Print, kept: &mut [usize], sheet: &[u8], list: &[u8]) -> io::Result<bool> {
     next_run(kept, CHOICE, 3);
     let m = next(kept);
     want_firsts(kept, m);
-    plan_filters(kept, sheet, list)
+    plan_filters(rt, kept, sheet, list)
 }
 
 // The refusal wanted, or 0 where the call is to be accepted.
@@ -76,31 +88,32 @@ fn want_refusal(kept: &mut [usize], number: usize) {
 }
 
 fn plans_within(
+    rt: &impl Print,
     kept: &mut [usize],
     sheet: &[u8],
     list: &[u8],
     cells: &mut [u32],
     work: &mut [u64],
-) -> bool {
+) -> io::Result<bool> {
     let c = next(kept);
     let w = next(kept);
     if cells.len() < c {
-        return false;
+        return Ok(false);
     }
     if work.len() < w {
-        return false;
+        return Ok(false);
     }
-    plans_in(kept, sheet, list, &mut cells[0..c], &mut work[0..w])
+    plans_in(rt, kept, sheet, list, &mut cells[0..c], &mut work[0..w])
 }
 
 // `within`: filter, choice, limit, the refusal, or 0 where the call is accepted, and the cells and words lent.
-fn within_row(kept: &mut [usize], sheet: &[u8], list: &[u8]) -> bool {
+fn within_row(rt: &impl Print, kept: &mut [usize], sheet: &[u8], list: &[u8]) -> io::Result<bool> {
     let mut cells = [7u32; 136];
     let mut work = [7u64; 32768];
     next_run(kept, FILTER, 3);
     let number = next(kept);
     want_refusal(kept, number);
-    plans_within(kept, sheet, list, &mut cells, &mut work)
+    plans_within(rt, kept, sheet, list, &mut cells, &mut work)
 }
 
 // The first m cells of the plan wanted.
@@ -112,57 +125,73 @@ fn plan_cells(kept: &[usize], cells: &mut [u32], m: usize) {
     }
 }
 
-fn checks_first(kept: &mut [usize], sheet: &[u8], cells: &[u32], m: usize, number: usize) -> bool {
+fn checks_first(
+    rt: &impl Print,
+    kept: &mut [usize],
+    sheet: &[u8],
+    cells: &[u32],
+    m: usize,
+    number: usize,
+) -> io::Result<bool> {
     if cells.len() < m {
-        return false;
+        return Ok(false);
     }
-    checks(kept, sheet, &cells[0..m], number)
+    checks(rt, kept, sheet, &cells[0..m], number)
 }
 
 // `check`: how many cells, the cells, and the number of the answer.
-fn check_row(kept: &mut [usize], sheet: &[u8]) -> bool {
+fn check_row(rt: &impl Print, kept: &mut [usize], sheet: &[u8]) -> io::Result<bool> {
     let mut cells = [0u32; 136];
     let m = next(kept);
     next_run(kept, PLAN, m);
     plan_cells(kept, &mut cells, m);
     let number = next(kept);
-    checks_first(kept, sheet, &cells, m, number)
+    checks_first(rt, kept, sheet, &cells, m, number)
 }
 
 // A sheet under a setting that is refused, or accepted.
 fn refuses_under(
+    rt: &impl Print,
     kept: &mut [usize],
     sheet: &[u8],
     filter: usize,
     choice: usize,
     limit: usize,
     number: usize,
-) -> bool {
+) -> io::Result<bool> {
     put(kept, FILTER, filter);
     put(kept, CHOICE, choice);
     put(kept, LIMIT, limit);
     want_refusal(kept, number);
-    plans(kept, sheet, b"")
+    plans(rt, kept, sheet, b"")
 }
 
 // A sheet that is refused, or accepted, by planning and by the check. With a setting out of range, which is tested
 // after the sheet, too.
-fn refuses(kept: &mut [usize], sheet: &[u8], number: usize) -> bool {
+fn refuses(rt: &impl Print, kept: &mut [usize], sheet: &[u8], number: usize) -> io::Result<bool> {
     let zeros = [0u32; 136];
-    if !refuses_under(kept, sheet, 0, 0, 1000000, number) {
-        return false;
+    if !refuses_under(rt, kept, sheet, 0, 0, 1000000, number)? {
+        return Ok(false);
     }
-    if !refuses_under(kept, sheet, 8, 3, 0, either(number == ACCEPTED, 9, number)) {
-        return false;
+    if !refuses_under(
+        rt,
+        kept,
+        sheet,
+        8,
+        3,
+        0,
+        either(number == ACCEPTED, 9, number),
+    )? {
+        return Ok(false);
     }
-    checks(kept, sheet, &zeros, number)
+    checks(rt, kept, sheet, &zeros, number)
 }
 
 // `first`: bytes lent of the sheet, and the refusal, or 0.
-fn first_row(kept: &mut [usize], sheet: &[u8]) -> bool {
+fn first_row(rt: &impl Print, kept: &mut [usize], sheet: &[u8]) -> io::Result<bool> {
     let m = next(kept);
     let number = next(kept);
-    refuses(kept, first_bytes(sheet, m), number)
+    refuses(rt, kept, first_bytes(sheet, m), number)
 }
 
 fn alter(kept: &mut [usize], sheet: &mut [u8]) {
@@ -179,98 +208,109 @@ fn alter(kept: &mut [usize], sheet: &mut [u8]) {
 }
 
 // `alter`: two fields of 2 or 4 bytes, 0 for none, each with its place and its number, then the refusal, or 0.
-fn alter_row(kept: &mut [usize], sheet: &mut [u8], length: usize) -> bool {
+fn alter_row(
+    rt: &impl Print,
+    kept: &mut [usize],
+    sheet: &mut [u8],
+    length: usize,
+) -> io::Result<bool> {
     alter(kept, sheet);
     alter(kept, sheet);
     let number = next(kept);
-    refuses(kept, first_bytes(sheet, length), number)
+    refuses(rt, kept, first_bytes(sheet, length), number)
 }
 
-fn takes_filters(kept: &mut [usize], sheet: &[u8]) -> bool {
+fn takes_filters(rt: &impl Print, kept: &mut [usize], sheet: &[u8]) -> io::Result<bool> {
     let mut filter = 0;
     while filter < 8 {
         put(kept, FILTER, filter);
-        if !plans(kept, sheet, b"") {
-            return false;
+        if !plans(rt, kept, sheet, b"")? {
+            return Ok(false);
         }
         filter += 1;
     }
-    true
+    Ok(true)
 }
 
 // `takes`: the number of the answer, its nodes under every filter number, and how many links take their first
 // frequency, the others none; then the check of that.
-fn takes_row(kept: &mut [usize], sheet: &[u8]) -> bool {
+fn takes_row(rt: &impl Print, kept: &mut [usize], sheet: &[u8]) -> io::Result<bool> {
     put(kept, CHOICE, 0);
     put(kept, LIMIT, 1000000);
     next_run(kept, NUMBER, 2);
     let m = next(kept);
     want_firsts(kept, m);
-    if !takes_filters(kept, sheet) {
-        return false;
+    if !takes_filters(rt, kept, sheet)? {
+        return Ok(false);
     }
-    checks_plan(kept, sheet)
+    checks_plan(rt, kept, sheet)
 }
 
 // The check of the plan wanted.
-fn checks_plan(kept: &mut [usize], sheet: &[u8]) -> bool {
+fn checks_plan(rt: &impl Print, kept: &mut [usize], sheet: &[u8]) -> io::Result<bool> {
     let mut cells = [0u32; 136];
     plan_cells(kept, &mut cells, 136);
     let number = get(kept, NUMBER);
-    checks(kept, sheet, &cells, number)
+    checks(rt, kept, sheet, &cells, number)
 }
 
 // `beside`: the sheet and the list beside the brute-force solver.
-fn beside_row(kept: &mut [usize], sheet: &[u8], list: &[u8]) -> bool {
+fn beside_row(rt: &impl Print, kept: &mut [usize], sheet: &[u8], list: &[u8]) -> io::Result<bool> {
     let mut graph = [0usize; CELLS];
     fill(kept, &mut graph);
-    beside(kept, &graph, sheet, list)
+    beside(rt, kept, &graph, sheet, list)
 }
 
 // A row with the sheet and the list.
-fn called_row(kept: &mut [usize], word: usize, sheet: &[u8], list: &[u8]) -> bool {
+fn called_row(
+    rt: &impl Print,
+    kept: &mut [usize],
+    word: usize,
+    sheet: &[u8],
+    list: &[u8],
+) -> io::Result<bool> {
     if word == PLANS {
-        return plan_row(kept, sheet, list);
+        return plan_row(rt, kept, sheet, list);
     }
     if word == YIELDS {
-        return yields_row(kept, sheet, list);
+        return yields_row(rt, kept, sheet, list);
     }
     if word == WITHIN {
-        return within_row(kept, sheet, list);
+        return within_row(rt, kept, sheet, list);
     }
     if word == CHECK {
-        return check_row(kept, sheet);
+        return check_row(rt, kept, sheet);
     }
     if word == DISPLAY {
-        return display_row(kept, sheet);
+        return display_row(rt, kept, sheet);
     }
     if word == TAKES {
-        return takes_row(kept, sheet);
+        return takes_row(rt, kept, sheet);
     }
     if word == BESIDE {
-        return beside_row(kept, sheet, list);
+        return beside_row(rt, kept, sheet, list);
     }
-    false
+    Ok(false)
 }
 
-fn listed_row(kept: &mut [usize], word: usize, sheet: &[u8]) -> bool {
+fn listed_row(rt: &impl Print, kept: &mut [usize], word: usize, sheet: &[u8]) -> io::Result<bool> {
     let mut list = [0u8; 1100];
     put_bytes(kept, LIST, &mut list);
     let m = get(kept, LISTED);
-    called_row(kept, word, sheet, first_bytes(&list, m))
+    called_row(rt, kept, word, sheet, first_bytes(&list, m))
 }
 
 // A row on the job's sheet.
-pub fn row_on_sheet(kept: &mut [usize], word: usize) -> bool
+pub fn row_on_sheet(rt: &impl Print, kept: &mut [usize], word: usize) -> io::Result<bool>
     ensures { length kept.new ≡ length kept.old }
 {
     let mut sheet = [0u8; 62400];
     let length = encode(kept, &mut sheet);
     if word == ALTER {
-        return alter_row(kept, &mut sheet, length);
+        return alter_row(rt, kept, &mut sheet, length);
     }
     if word == FIRST {
-        return first_row(kept, &sheet);
+        return first_row(rt, kept, &sheet);
     }
-    listed_row(kept, word, first_bytes(&sheet, length))
+    listed_row(rt, kept, word, first_bytes(&sheet, length))
 }

@@ -3,6 +3,7 @@ ghost use Rattle.std.specs.Prelude.{◌≡◌, length};
 
 use crate::places::{is_judged, is_table, links_shown, list_end};
 use crate::report::is_answer;
+use std::io;
 use trial_parts::kept::{CHANNELS, CHECKS, K, ON_AIR, SPARES};
 use trial_parts::{first_bytes, get, get_cell, khz, less, more, plus, put_bytes, put_cell, times};
 
@@ -13,39 +14,49 @@ fn ask(sheet: &[u8], channels: &[u8], cells: &[u32], table: &mut [i32]) -> usize
 
 // Whether the call gives the number wanted, and a table with what each pair of cells has to spare, or with zeros.
 pub fn shows_in(
+    rt: &impl Print,
     kept: &mut [usize],
     sheet: &[u8],
     channels: &[u8],
     cells: &[u32],
     number: usize,
     table: &mut [i32],
-) -> bool
+) -> io::Result<bool>
     ensures { length kept.new ≡ length kept.old }
 {
     let mut vertices = [0usize; 128];
     more(kept, SPARES);
     let got = ask(sheet, channels, cells, table);
-    if !is_answer(got, number, get_cell(cells, 0)) {
-        return false;
+    if !is_answer(rt, got, number, get_cell(cells, 0))? {
+        return Ok(false);
     }
     let k = links_shown(kept, cells, number, &mut vertices);
-    is_table(kept, &vertices, k, table)
+    is_table(rt, kept, &vertices, k, table)
 }
 
 // The same in a table of its own with so many places, which are not zero before.
 fn shows_on(
+    rt: &impl Print,
     kept: &mut [usize],
     sheet: &[u8],
     channels: &[u8],
     cells: &[u32],
     number: usize,
     places: usize,
-) -> bool {
+) -> io::Result<bool> {
     let mut table = [7i32; 16448];
     if table.len() < places {
-        return shows_in(kept, sheet, channels, cells, number, &mut table);
+        return shows_in(rt, kept, sheet, channels, cells, number, &mut table);
     }
-    shows_in(kept, sheet, channels, cells, number, &mut table[0..places])
+    shows_in(
+        rt,
+        kept,
+        sheet,
+        channels,
+        cells,
+        number,
+        &mut table[0..places],
+    )
 }
 
 // The places of a table of all links.
@@ -64,19 +75,28 @@ fn turn(kept: &[usize], m: usize) -> usize {
 
 // With as many places as there are pairs of links, or up to three more; and with fewer.
 fn shows_places(
+    rt: &impl Print,
     kept: &mut [usize],
     sheet: &[u8],
     channels: &[u8],
     cells: &[u32],
     number: usize,
-) -> bool {
+) -> io::Result<bool> {
     let places = all_places(kept);
     let extra = turn(kept, 4);
-    if !shows_on(kept, sheet, channels, cells, number, plus(places, extra)) {
-        return false;
+    if !shows_on(
+        rt,
+        kept,
+        sheet,
+        channels,
+        cells,
+        number,
+        plus(places, extra),
+    )? {
+        return Ok(false);
     }
     let few = turn(kept, places);
-    shows_on(kept, sheet, channels, cells, 10, few)
+    shows_on(rt, kept, sheet, channels, cells, 10, few)
 }
 
 fn copy_cells(cells: &[u32], out: &mut [u32]) {
@@ -88,55 +108,74 @@ fn copy_cells(cells: &[u32], out: &mut [u32]) {
 }
 
 // With a cell that is not in its link's list, but one above its last frequency.
-fn shows_unlisted(kept: &mut [usize], sheet: &[u8], channels: &[u8], cells: &[u32]) -> bool {
+fn shows_unlisted(
+    rt: &impl Print,
+    kept: &mut [usize],
+    sheet: &[u8],
+    channels: &[u8],
+    cells: &[u32],
+) -> io::Result<bool> {
     let mut other = [0u32; 136];
     copy_cells(cells, &mut other);
     let l = turn(kept, get(kept, K));
     let last = khz(kept, less(list_end(kept, l), 1));
     put_cell(&mut other, l, plus(last, 1));
     let places = all_places(kept);
-    shows_on(kept, sheet, channels, &other, 0, places)
+    shows_on(rt, kept, sheet, channels, &other, 0, places)
 }
 
 // With a list of channels that is refused, and with a sheet that is: its last byte is left out.
-fn shows_refused(kept: &mut [usize], sheet: &[u8], channels: &[u8], cells: &[u32]) -> bool {
+fn shows_refused(
+    rt: &impl Print,
+    kept: &mut [usize],
+    sheet: &[u8],
+    channels: &[u8],
+    cells: &[u32],
+) -> io::Result<bool> {
     let wrong = [20u8; 1];
     let places = all_places(kept);
-    if !shows_on(kept, sheet, &wrong, cells, 17, places) {
-        return false;
+    if !shows_on(rt, kept, sheet, &wrong, cells, 17, places)? {
+        return Ok(false);
     }
     let m = less(sheet.len(), 1);
-    shows_on(kept, first_bytes(sheet, m), channels, cells, 4, places)
+    shows_on(rt, kept, first_bytes(sheet, m), channels, cells, 4, places)
 }
 
 // Cells that the check judges, and cells that it refuses.
 fn shows_all(
+    rt: &impl Print,
     kept: &mut [usize],
     sheet: &[u8],
     channels: &[u8],
     cells: &[u32],
     number: usize,
-) -> bool {
+) -> io::Result<bool> {
     if !is_judged(number) {
         let places = all_places(kept);
-        return shows_on(kept, sheet, channels, cells, number, places);
+        return shows_on(rt, kept, sheet, channels, cells, number, places);
     }
-    if !shows_places(kept, sheet, channels, cells, number) {
-        return false;
+    if !shows_places(rt, kept, sheet, channels, cells, number)? {
+        return Ok(false);
     }
-    if !shows_unlisted(kept, sheet, channels, cells) {
-        return false;
+    if !shows_unlisted(rt, kept, sheet, channels, cells)? {
+        return Ok(false);
     }
-    shows_refused(kept, sheet, channels, cells)
+    shows_refused(rt, kept, sheet, channels, cells)
 }
 
 // Whether the call with the channels of the job gives the number that the check gives, and the table; and, for cells
 // that it judges, zeros with too few places, with a cell that is not in its list, and where it refuses.
-pub fn shows(kept: &mut [usize], sheet: &[u8], cells: &[u32], number: usize) -> bool
+pub fn shows(
+    rt: &impl Print,
+    kept: &mut [usize],
+    sheet: &[u8],
+    cells: &[u32],
+    number: usize,
+) -> io::Result<bool>
     ensures { length kept.new ≡ length kept.old }
 {
     let mut channels = [0u8; 60];
     put_bytes(kept, CHANNELS, &mut channels);
     let on_air = first_bytes(&channels, get(kept, ON_AIR));
-    shows_all(kept, sheet, on_air, cells, number)
+    shows_all(rt, kept, sheet, on_air, cells, number)
 }

@@ -4,6 +4,7 @@ ghost use Rattle.std.specs.Prelude.{◌≡◌, length};
 use crate::calls::shows_in;
 use crate::places::get_spare;
 use crate::report::is_place;
+use std::io;
 use trial_job::ZERO;
 use trial_parts::kept::{CHANNELS, ON_AIR};
 use trial_parts::{SKIP, first_bytes, get, less, next, plus, put_bytes, put_cell};
@@ -28,35 +29,41 @@ fn next_spare(kept: &mut [usize]) -> usize {
 }
 
 // Whether the first places have the next m numbers.
-fn has_next(kept: &mut [usize], table: &[i32], m: usize) -> bool {
+fn has_next(rt: &impl Print, kept: &mut [usize], table: &[i32], m: usize) -> io::Result<bool> {
     let mut i = 0;
     while i < m {
         let wanted = next_spare(kept);
-        if !is_place(i, get_spare(table, i), wanted) {
-            return false;
+        if !is_place(rt, i, get_spare(table, i), wanted)? {
+            return Ok(false);
         }
         i += 1;
     }
-    true
+    Ok(true)
 }
 
 // The call with the channels of the job in so many cells and places.
-fn displays(kept: &mut [usize], sheet: &[u8], cells: &mut [u32], table: &mut [i32]) -> bool {
+fn displays(
+    rt: &impl Print,
+    kept: &mut [usize],
+    sheet: &[u8],
+    cells: &mut [u32],
+    table: &mut [i32],
+) -> io::Result<bool> {
     let mut channels = [0u8; 60];
     put_bytes(kept, CHANNELS, &mut channels);
     let on_air = first_bytes(&channels, get(kept, ON_AIR));
     next_cells(kept, cells);
     let number = next(kept);
-    if !shows_in(kept, sheet, on_air, cells, number, table) {
-        return false;
+    if !shows_in(rt, kept, sheet, on_air, cells, number, table)? {
+        return Ok(false);
     }
     let m = next(kept);
-    has_next(kept, table, m)
+    has_next(rt, kept, table, m)
 }
 
 // `display`: the places lent, how many cells, the cells, the number of the answer, how many numbers, and those of the
 // first places.
-pub fn display_row(kept: &mut [usize], sheet: &[u8]) -> bool
+pub fn display_row(rt: &impl Print, kept: &mut [usize], sheet: &[u8]) -> io::Result<bool>
     ensures { length kept.new ≡ length kept.old }
 {
     let mut cells = [0u32; 136];
@@ -64,10 +71,10 @@ pub fn display_row(kept: &mut [usize], sheet: &[u8]) -> bool
     let places = next(kept);
     let m = next(kept);
     if table.len() < places {
-        return false;
+        return Ok(false);
     }
     if cells.len() < m {
-        return false;
+        return Ok(false);
     }
-    displays(kept, sheet, &mut cells[0..m], &mut table[0..places])
+    displays(rt, kept, sheet, &mut cells[0..m], &mut table[0..places])
 }

@@ -1,5 +1,6 @@
 // The places of a table: those of the call, and those wanted, from the tables of the job.
 use crate::report::is_place;
+use std::io;
 use trial_job::{ZERO, spare};
 use trial_parts::kept::K;
 use trial_parts::{count, first, get, get_cell, khz, plus, put, times};
@@ -87,13 +88,19 @@ fn place(job: &[usize], vertices: &[usize], k: usize, i: usize) -> usize {
 }
 
 // Whether each place is as wanted. The first that is not is printed.
-pub fn is_table(job: &[usize], vertices: &[usize], k: usize, table: &[i32]) -> bool {
+pub fn is_table(
+    rt: &impl Print,
+    job: &[usize],
+    vertices: &[usize],
+    k: usize,
+    table: &[i32],
+) -> io::Result<bool> {
     let mut i = 0;
     while i < table.len() {
-        if !is_place(i, get_spare(table, i), place(job, vertices, k, i)) {
-            return false;
+        if !is_place(rt, i, get_spare(table, i), place(job, vertices, k, i))? {
+            return Ok(false);
         }
         i += 1;
     }
-    true
+    Ok(true)
 }

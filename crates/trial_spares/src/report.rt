@@ -1,49 +1,47 @@
 // What is printed of a difference.
-use libc::STDOUT_FILENO;
+use std::io;
 use trial_job::ZERO;
 use trial_parts::distance;
 
-fn text(words: &[u8]) {
-    io::write_all(STDOUT_FILENO, words);
+fn text(rt: &impl Print, words: &[u8]) -> io::Result<()> {
+    rt.write_all(words)
 }
 
-fn number(n: usize) {
-    text(b" ");
-    io::print_decimal(STDOUT_FILENO, n as u64);
+fn number(rt: &impl Print, n: usize) -> io::Result<()> {
+    print!(rt; " {n}")
 }
 
 // A number of half kHz, with its sign.
-fn half_khz(x: usize) {
+fn half_khz(rt: &impl Print, x: usize) -> io::Result<()> {
     if x < ZERO {
-        text(b" -");
-        io::print_decimal(STDOUT_FILENO, distance(x, ZERO) as u64);
-        return;
+        let below = distance(x, ZERO);
+        return print!(rt; " -{below}");
     }
-    number(distance(x, ZERO));
+    number(rt, distance(x, ZERO))
 }
 
 // Whether the number of an answer, for cells with this first one, is as wanted.
-pub fn is_answer(got: usize, wanted: usize, cell: usize) -> bool {
+pub fn is_answer(rt: &impl Print, got: usize, wanted: usize, cell: usize) -> io::Result<bool> {
     if got == wanted {
-        return true;
+        return Ok(true);
     }
-    text(b"difference: spares, wanted, first cell");
-    number(got);
-    number(wanted);
-    number(cell);
-    text(b"\n");
-    false
+    text(rt, b"difference: spares, wanted, first cell")?;
+    number(rt, got)?;
+    number(rt, wanted)?;
+    number(rt, cell)?;
+    text(rt, b"\n")?;
+    Ok(false)
 }
 
 // Whether place i of a table is as wanted.
-pub fn is_place(i: usize, got: usize, wanted: usize) -> bool {
+pub fn is_place(rt: &impl Print, i: usize, got: usize, wanted: usize) -> io::Result<bool> {
     if got == wanted {
-        return true;
+        return Ok(true);
     }
-    text(b"difference: place, spare, wanted");
-    number(i);
-    half_khz(got);
-    half_khz(wanted);
-    text(b"\n");
-    false
+    text(rt, b"difference: place, spare, wanted")?;
+    number(rt, i)?;
+    half_khz(rt, got)?;
+    half_khz(rt, wanted)?;
+    text(rt, b"\n")?;
+    Ok(false)
 }

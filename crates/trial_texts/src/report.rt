@@ -1,13 +1,12 @@
 // What the program prints.
-use libc::STDOUT_FILENO;
+use std::io;
 
-pub fn text(words: &[u8]) {
-    io::write_all(STDOUT_FILENO, words);
+pub fn text(rt: &impl Print, words: &[u8]) -> io::Result<()> {
+    rt.write_all(words)
 }
 
 // A text and a number.
-pub fn item(words: &[u8], n: usize) {
-    text(words);
-    text(b" ");
-    io::print_decimal(STDOUT_FILENO, n as u64);
+pub fn item(rt: &impl Print, words: &[u8], n: usize) -> io::Result<()> {
+    text(rt, words)?;
+    print!(rt; " {n}")
 }

@@ -1,10 +1,11 @@
 // The rows of texts. Each says whether all was as wanted.
+use std::io;
 use trial_parts::{EQUALS, first_bytes, line_end, next};
 use trial_texts_parts::{put_equal_counts, put_head, put_quoted};
 use trial_texts_there::gives;
 
 // `counts`: how many counts, the number of each, n and m of the graph text, and the number of the import.
-pub fn counts_row(kept: &mut [usize]) -> bool {
+pub fn counts_row(rt: &impl Print, kept: &mut [usize]) -> io::Result<bool> {
     let mut sizes = [0u8; 1024];
     let mut text = [0u8; 64];
     let l = next(kept);
@@ -14,7 +15,13 @@ pub fn counts_row(kept: &mut [usize]) -> bool {
     let m = next(kept);
     let g = put_head(&mut text, n, m);
     let number = next(kept);
-    gives(kept, first_bytes(&text, g), first_bytes(&sizes, c), number)
+    gives(
+        rt,
+        kept,
+        first_bytes(&text, g),
+        first_bytes(&sizes, c),
+        number,
+    )
 }
 
 // The next quoted text. Gives its length.
@@ -27,11 +34,17 @@ fn quoted(words: &[u8], kept: &mut [usize], out: &mut [u8]) -> usize {
 }
 
 // `bytes`: the number of the import, the graph text and the count text.
-pub fn bytes_row(words: &[u8], kept: &mut [usize]) -> bool {
+pub fn bytes_row(rt: &impl Print, words: &[u8], kept: &mut [usize]) -> io::Result<bool> {
     let mut text = [0u8; 256];
     let mut sizes = [0u8; 256];
     let number = next(kept);
     let g = quoted(words, kept, &mut text);
     let c = quoted(words, kept, &mut sizes);
-    gives(kept, first_bytes(&text, g), first_bytes(&sizes, c), number)
+    gives(
+        rt,
+        kept,
+        first_bytes(&text, g),
+        first_bytes(&sizes, c),
+        number,
+    )
 }

@@ -2,6 +2,7 @@
 ghost use Rattle.std.specs.Prelude.{◌≡◌, length};
 
 use crate::runs::runs_agree;
+use std::io;
 use trial_parts::kept::{INPUT, K, N, T};
 use trial_parts::{SKIP, encode, first_bytes, get};
 use trial_texts_calls::{exports, imports, imports_all, is_same};
@@ -11,16 +12,22 @@ use trial_texts_parts::put_back;
 pub const CAUSE: usize = 18;
 
 // Whether the number that the graph's pairs ask of an import is the one that the row names, if any.
-fn has_cause(kept: &[usize], number: usize) -> bool {
+fn has_cause(rt: &impl Print, kept: &[usize], number: usize) -> io::Result<bool> {
     let wanted = get(kept, CAUSE);
     if wanted == SKIP {
-        return true;
+        return Ok(true);
     }
-    is_same(b"number that the pairs ask of the import", number, wanted)
+    is_same(
+        rt,
+        b"number that the pairs ask of the import",
+        number,
+        wanted,
+    )
 }
 
 // Whether the texts give back a sheet, the same texts again, and the same runs.
 fn returns(
+    rt: &impl Print,
     kept: &mut [usize],
     sheet: &[u8],
     text: &[u8],
@@ -28,25 +35,31 @@ fn returns(
     graph: &mut [u8],
     counts: &mut [u8],
     back: &[u8],
-) -> bool {
+) -> io::Result<bool> {
     let mut again = [0u8; 60000];
-    if !imports_all(kept, text, sizes, &mut again, back) {
-        return false;
+    if !imports_all(rt, kept, text, sizes, &mut again, back)? {
+        return Ok(false);
     }
     let imported = first_bytes(&again, back.len());
-    if !exports(kept, imported, graph, counts, 0, text, sizes) {
-        return false;
+    if !exports(rt, kept, imported, graph, counts, 0, text, sizes)? {
+        return Ok(false);
     }
-    runs_agree(kept, sheet, imported)
+    runs_agree(rt, kept, sheet, imported)
 }
 
 // Texts that are refused by this number.
-fn is_refused(kept: &mut [usize], text: &[u8], sizes: &[u8], number: usize) -> bool {
+fn is_refused(
+    rt: &impl Print,
+    kept: &mut [usize],
+    text: &[u8],
+    sizes: &[u8],
+    number: usize,
+) -> io::Result<bool> {
     let mut again = [0u8; 60000];
-    if !has_cause(kept, number) {
-        return false;
+    if !has_cause(rt, kept, number)? {
+        return Ok(false);
     }
-    imports(kept, text, sizes, &mut again, number, b"")
+    imports(rt, kept, text, sizes, &mut again, number, b"")
 }
 
 // Whether a job has more links or frequencies than a sheet of form 1 holds.
@@ -59,6 +72,7 @@ fn is_festival(job: &[usize]) -> bool {
 
 // The way back, by the sheet that the graph asks for, of form 1: the table ends before a job's widths and form.
 pub fn comes_back(
+    rt: &impl Print,
     kept: &mut [usize],
     sheet: &[u8],
     table: &[u8],
@@ -66,23 +80,24 @@ pub fn comes_back(
     sizes: &[u8],
     graph: &mut [u8],
     counts: &mut [u8],
-) -> bool
+) -> io::Result<bool>
     ensures { length kept.new ≡ length kept.old }
 {
     let mut job = [0usize; INPUT];
     let mut back = [0u8; 60000];
     if is_festival(kept) {
-        return is_refused(kept, text, sizes, 13);
+        return is_refused(rt, kept, text, sizes, 13);
     }
     put_back(kept, table, &mut job);
     if 8192 < get(&job, T) {
-        return is_refused(kept, text, sizes, 15);
+        return is_refused(rt, kept, text, sizes, 15);
     }
-    if !has_cause(kept, 0) {
-        return false;
+    if !has_cause(rt, kept, 0)? {
+        return Ok(false);
     }
     let length = encode(&job, &mut back);
     returns(
+        rt,
         kept,
         sheet,
         text,

@@ -1,5 +1,7 @@
 // The way back of the test program of the texts: the import of a sheet's texts, the same texts again, and the runs of
 // both sheets. A difference is printed.
+#![tactic(auto)]
+
 mod back;
 mod runs;
 

@@ -2,6 +2,7 @@
 ghost use Rattle.std.specs.Prelude.{◌≡◌, length};
 
 use setting::Options;
+use std::io;
 use trial_parts::kept::{CALLS, NODES};
 use trial_parts::{either, get, get_byte, narrow, put};
 use trial_texts_calls::{is_same, more};
@@ -53,25 +54,32 @@ fn setting_of(p: usize) -> Options {
 }
 
 // Whether a sheet is accepted by the planner.
-pub fn is_accepted(kept: &mut [usize], sheet: &[u8]) -> bool
+pub fn is_accepted(rt: &impl Print, kept: &mut [usize], sheet: &[u8]) -> io::Result<bool>
     ensures { length kept.new ≡ length kept.old }
 {
     let number = run(kept, sheet, setting_of(7));
     if 100 <= number {
-        return true;
+        return Ok(true);
     }
-    is_same(b"number of the imported sheet's run", number, 100)
+    is_same(rt, b"number of the imported sheet's run", number, 100)
 }
 
 // Whether the runs of two sheets agree under setting p.
-fn agree_under(kept: &mut [usize], one: &[u8], other: &[u8], p: usize) -> bool {
+fn agree_under(
+    rt: &impl Print,
+    kept: &mut [usize],
+    one: &[u8],
+    other: &[u8],
+    p: usize,
+) -> io::Result<bool> {
     let number = run(kept, one, setting_of(p));
     let nodes = get(kept, NODES);
     let second = run(kept, other, setting_of(p));
-    if !is_same(b"number of the imported sheet's run", second, number) {
-        return false;
+    if !is_same(rt, b"number of the imported sheet's run", second, number)? {
+        return Ok(false);
     }
     is_same(
+        rt,
         b"nodes of the imported sheet's run",
         get(kept, NODES),
         nodes,
@@ -79,15 +87,15 @@ fn agree_under(kept: &mut [usize], one: &[u8], other: &[u8], p: usize) -> bool {
 }
 
 // Whether the runs of two sheets agree under every setting.
-pub fn runs_agree(kept: &mut [usize], one: &[u8], other: &[u8]) -> bool
+pub fn runs_agree(rt: &impl Print, kept: &mut [usize], one: &[u8], other: &[u8]) -> io::Result<bool>
     ensures { length kept.new ≡ length kept.old }
 {
     let mut p = 0;
     while p < 32 {
-        if !agree_under(kept, one, other, p) {
-            return is_same(b"first of 32 settings with another run", p, 32);
+        if !agree_under(rt, kept, one, other, p)? {
+            return is_same(rt, b"first of 32 settings with another run", p, 32);
         }
         p += 1;
     }
-    true
+    Ok(true)
 }

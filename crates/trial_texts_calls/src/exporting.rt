@@ -4,6 +4,7 @@ ghost use Rattle.std.specs.Prelude.{◌≡◌, length};
 use crate::counted::{EXPORTS, more};
 use crate::report::{holds, is_same};
 use graph_export::{Exported, export, export_number};
+use std::io;
 use trial_parts::{either, first_bytes, less};
 use trial_texts_parts::fill_bytes;
 
@@ -16,31 +17,45 @@ fn export_over(kept: &mut [usize], sheet: &[u8], graph: &mut [u8], counts: &mut 
 }
 
 // Whether an export says a number, and the lengths of texts.
-fn says(e: Exported, number: usize, text: &[u8], sizes: &[u8]) -> bool {
+fn says(
+    rt: &impl Print,
+    e: Exported,
+    number: usize,
+    text: &[u8],
+    sizes: &[u8],
+) -> io::Result<bool> {
     let answer = e.answer;
     if !is_same(
+        rt,
         b"number of the export",
         export_number(answer) as usize,
         number,
-    ) {
-        return false;
+    )? {
+        return Ok(false);
     }
-    if !is_same(b"length of the graph text", e.graph, text.len()) {
-        return false;
+    if !is_same(rt, b"length of the graph text", e.graph, text.len())? {
+        return Ok(false);
     }
-    is_same(b"length of the count text", e.counts, sizes.len())
+    is_same(rt, b"length of the count text", e.counts, sizes.len())
 }
 
 // Whether outputs hold both texts, and zeros after them.
-fn hold_texts(graph: &[u8], counts: &[u8], text: &[u8], sizes: &[u8]) -> bool {
-    if !holds(b"in the graph text", graph, text) {
-        return false;
+fn hold_texts(
+    rt: &impl Print,
+    graph: &[u8],
+    counts: &[u8],
+    text: &[u8],
+    sizes: &[u8],
+) -> io::Result<bool> {
+    if !holds(rt, b"in the graph text", graph, text)? {
+        return Ok(false);
     }
-    holds(b"in the count text", counts, sizes)
+    holds(rt, b"in the count text", counts, sizes)
 }
 
 // Whether an export gives a number, and both texts with zeros after them; for a refusal only zeros.
 pub fn exports(
+    rt: &impl Print,
     kept: &mut [usize],
     sheet: &[u8],
     graph: &mut [u8],
@@ -48,16 +63,16 @@ pub fn exports(
     number: usize,
     text: &[u8],
     sizes: &[u8],
-) -> bool
+) -> io::Result<bool>
     ensures { length kept.new ≡ length kept.old }
 {
     let g = first_bytes(text, either(number == 0, text.len(), 0));
     let c = first_bytes(sizes, either(number == 0, sizes.len(), 0));
     let e = export_over(kept, sheet, graph, counts);
-    if !says(e, number, g, c) {
-        return false;
+    if !says(rt, e, number, g, c)? {
+        return Ok(false);
     }
-    hold_texts(graph, counts, g, c)
+    hold_texts(rt, graph, counts, g, c)
 }
 
 // The number wanted of an export into g and c bytes.
@@ -70,6 +85,7 @@ fn number_in(g: usize, c: usize, text: &[u8], sizes: &[u8]) -> usize {
 
 // The same in the first g and c bytes of the outputs.
 fn exports_first(
+    rt: &impl Print,
     kept: &mut [usize],
     sheet: &[u8],
     graph: &mut [u8],
@@ -78,15 +94,16 @@ fn exports_first(
     c: usize,
     text: &[u8],
     sizes: &[u8],
-) -> bool {
+) -> io::Result<bool> {
     if graph.len() < g {
-        return is_same(b"room for the graph text", graph.len(), g);
+        return is_same(rt, b"room for the graph text", graph.len(), g);
     }
     if counts.len() < c {
-        return is_same(b"room for the count text", counts.len(), c);
+        return is_same(rt, b"room for the count text", counts.len(), c);
     }
     let number = number_in(g, c, text, sizes);
     exports(
+        rt,
         kept,
         sheet,
         &mut graph[0..g],
@@ -99,51 +116,54 @@ fn exports_first(
 
 // The same in outputs that are one byte too short in either.
 fn exports_short(
+    rt: &impl Print,
     kept: &mut [usize],
     sheet: &[u8],
     graph: &mut [u8],
     counts: &mut [u8],
     text: &[u8],
     sizes: &[u8],
-) -> bool {
+) -> io::Result<bool> {
     let g = text.len();
     let c = sizes.len();
-    if !exports_first(kept, sheet, graph, counts, less(g, 1), c, text, sizes) {
-        return false;
+    if !exports_first(rt, kept, sheet, graph, counts, less(g, 1), c, text, sizes)? {
+        return Ok(false);
     }
-    exports_first(kept, sheet, graph, counts, g, less(c, 1), text, sizes)
+    exports_first(rt, kept, sheet, graph, counts, g, less(c, 1), text, sizes)
 }
 
 // The same in outputs exactly long enough, and too short.
 fn exports_close(
+    rt: &impl Print,
     kept: &mut [usize],
     sheet: &[u8],
     graph: &mut [u8],
     counts: &mut [u8],
     text: &[u8],
     sizes: &[u8],
-) -> bool {
+) -> io::Result<bool> {
     let g = text.len();
     let c = sizes.len();
-    if !exports_first(kept, sheet, graph, counts, g, c, text, sizes) {
-        return false;
+    if !exports_first(rt, kept, sheet, graph, counts, g, c, text, sizes)? {
+        return Ok(false);
     }
-    exports_short(kept, sheet, graph, counts, text, sizes)
+    exports_short(rt, kept, sheet, graph, counts, text, sizes)
 }
 
 // The same in outputs with room left, exactly long enough, and one byte too short in either.
 pub fn exports_all(
+    rt: &impl Print,
     kept: &mut [usize],
     sheet: &[u8],
     graph: &mut [u8],
     counts: &mut [u8],
     text: &[u8],
     sizes: &[u8],
-) -> bool
+) -> io::Result<bool>
     ensures { length kept.new ≡ length kept.old }
 {
-    if !exports(kept, sheet, graph, counts, 0, text, sizes) {
-        return false;
+    if !exports(rt, kept, sheet, graph, counts, 0, text, sizes)? {
+        return Ok(false);
     }
-    exports_close(kept, sheet, graph, counts, text, sizes)
+    exports_close(rt, kept, sheet, graph, counts, text, sizes)
 }

@@ -4,6 +4,7 @@ ghost use Rattle.std.specs.Prelude.{◌≡◌, length};
 use crate::counted::{IMPORTS, more};
 use crate::report::{holds, is_same};
 use graph_import::{Imported, import, import_number};
+use std::io;
 use trial_parts::less;
 use trial_texts_parts::fill_bytes;
 
@@ -14,9 +15,10 @@ fn import_over(kept: &mut [usize], text: &[u8], sizes: &[u8], sheet: &mut [u8]) 
     import(text, sizes, sheet)
 }
 
-fn has_number(i: Imported, number: usize) -> bool {
+fn has_number(rt: &impl Print, i: Imported, number: usize) -> io::Result<bool> {
     let answer = i.answer;
     is_same(
+        rt,
         b"number of the import",
         import_number(answer) as usize,
         number,
@@ -25,70 +27,79 @@ fn has_number(i: Imported, number: usize) -> bool {
 
 // Whether an import gives a number, and the sheet with zeros after it. For a refusal the sheet is empty.
 pub fn imports(
+    rt: &impl Print,
     kept: &mut [usize],
     text: &[u8],
     sizes: &[u8],
     sheet: &mut [u8],
     number: usize,
     wanted: &[u8],
-) -> bool
+) -> io::Result<bool>
     ensures { length kept.new ≡ length kept.old }
 {
     let i = import_over(kept, text, sizes, sheet);
-    if !has_number(i, number) {
-        return false;
+    if !has_number(rt, i, number)? {
+        return Ok(false);
     }
-    if !is_same(b"length of the imported sheet", i.length, wanted.len()) {
-        return false;
+    if !is_same(rt, b"length of the imported sheet", i.length, wanted.len())? {
+        return Ok(false);
     }
-    holds(b"in the imported sheet", sheet, wanted)
+    holds(rt, b"in the imported sheet", sheet, wanted)
 }
 
 // The same in the first m bytes of the output: number 15 where they are too few.
 fn imports_first(
+    rt: &impl Print,
     kept: &mut [usize],
     text: &[u8],
     sizes: &[u8],
     sheet: &mut [u8],
     m: usize,
     wanted: &[u8],
-) -> bool {
+) -> io::Result<bool> {
     if sheet.len() < m {
-        return is_same(b"room for the imported sheet", sheet.len(), m);
+        return is_same(rt, b"room for the imported sheet", sheet.len(), m);
     }
     if m < wanted.len() {
-        return imports(kept, text, sizes, &mut sheet[0..m], 15, b"");
+        return imports(rt, kept, text, sizes, &mut sheet[0..m], 15, b"");
     }
-    imports(kept, text, sizes, &mut sheet[0..m], 0, wanted)
+    imports(rt, kept, text, sizes, &mut sheet[0..m], 0, wanted)
 }
 
 // The same in outputs one byte too short, exactly long enough, and with room left.
 pub fn imports_all(
+    rt: &impl Print,
     kept: &mut [usize],
     text: &[u8],
     sizes: &[u8],
     sheet: &mut [u8],
     wanted: &[u8],
-) -> bool
+) -> io::Result<bool>
     ensures { length kept.new ≡ length kept.old }
 {
     let m = wanted.len();
-    if !imports_first(kept, text, sizes, sheet, less(m, 1), wanted) {
-        return false;
+    if !imports_first(rt, kept, text, sizes, sheet, less(m, 1), wanted)? {
+        return Ok(false);
     }
-    if !imports_first(kept, text, sizes, sheet, m, wanted) {
-        return false;
+    if !imports_first(rt, kept, text, sizes, sheet, m, wanted)? {
+        return Ok(false);
     }
-    imports(kept, text, sizes, sheet, 0, wanted)
+    imports(rt, kept, text, sizes, sheet, 0, wanted)
 }
 
 // The length of the sheet of texts that are taken; 0 where they are not.
-pub fn imported_length(kept: &mut [usize], text: &[u8], sizes: &[u8], sheet: &mut [u8]) -> usize
+pub fn imported_length(
+    rt: &impl Print,
+    kept: &mut [usize],
+    text: &[u8],
+    sizes: &[u8],
+    sheet: &mut [u8],
+) -> io::Result<usize>
     ensures { length kept.new ≡ length kept.old }
 {
     let i = import_over(kept, text, sizes, sheet);
-    if !has_number(i, 0) {
-        return 0;
+    if !has_number(rt, i, 0)? {
+        return Ok(0);
     }
-    i.length
+    Ok(i.length)
 }

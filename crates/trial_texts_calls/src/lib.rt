@@ -1,5 +1,7 @@
 // Calls of the test program of the texts: export and import beside what is wanted of them, in outputs that are filled
 // before. A difference is printed.
+#![tactic(auto)]
+
 mod counted;
 mod exporting;
 mod importing;

@@ -1,0 +1,11 @@
+-- `trial::print_nodes` is safe and ends: i counts up to 8.
+use Prim.Native.Nat.{◌≤◌, ◌-◌}
+use Rattle.trial.proofs.print_nodes.Given as goal
+
+abbrev pub invariant-loop-i : goal.invariant-loop-i
+invariant-loop-i g l =
+    l.i ≤ 8
+
+abbrev pub decreases-loop-i : goal.decreases-loop-i
+decreases-loop-i g l =
+    8 - l.i
