@@ -1,5 +1,7 @@
 // Planning and checking with numbers and byte slices: what the console's calls and the desk's have in common. The
 // contracts cite specs/ByteCalls.antt, for every input.
+#![tactic(auto)]
+
 mod cell_bytes;
 
 ghost use Rattle.std.specs.Prelude.{◌≡◌, ◌+◌, ◌*◌, ◌^◌, ◌≤◌, min, ◌/◌, length};

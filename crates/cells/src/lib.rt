@@ -1,5 +1,7 @@
 // The plan cells of a found plan, in link order, by the vertex that the search has chosen for each class.
 // The contract of `put_plan` cites `plan_cells` of specs/Cells.antt.
+#![tactic(auto)]
+
 ghost use Rattle.std.specs.Prelude.{◌≡◌, ◌≤◌, ◌<◌, eqb, length};
 ghost use Rattle.sets.specs.Below.{first};
 ghost use Rattle.sheet_rows.specs.Rows.{freq as freq_of};

@@ -1,5 +1,7 @@
 // The channels of television that are on air: whether a list of them may be lent, and which frequencies it takes out.
 // The contracts cite specs/Channels.antt.
+#![tactic(auto)]
+
 mod chart;
 
 ghost use Rattle.std.specs.Prelude.{◌≡◌, true, ◌≤◌, ◌<◌, length};

@@ -1,6 +1,8 @@
 // The console's two calls, with numbers and byte slices, for a C program. They lend no list of channels; planning is
 // for halls, forms 1 and 2, the check takes every form. Their contracts cite specs/ByteCalls.antt of the crate
 // byte_calls, for every input.
+#![tactic(auto)]
+
 ghost use Rattle.std.specs.Prelude.{◌≡◌, length};
 ghost use Rattle.rules.specs.Job.{job_of};
 ghost use Rattle.setting.specs.Setting.{setting_of};

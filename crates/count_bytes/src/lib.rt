@@ -1,4 +1,6 @@
 // The counting call with numbers and byte slices. The contracts cite specs/CountBytes.antt, for every input.
+#![tactic(auto)]
+
 ghost use Rattle.std.specs.Prelude.{◌≡◌, ◌/◌, ◌≤◌, min, length};
 ghost use Rattle.sheet_rows.specs.Form.{most_words};
 ghost use Rattle.rules.specs.Job.{job_with};

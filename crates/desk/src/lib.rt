@@ -1,6 +1,8 @@
 // The desk's calls, with numbers and byte slices, for a C program: what a planner's desk asks beside the console's two
 // calls. Their contracts cite specs/Desk.antt and the definitions of the crates byte_calls, count_bytes and
 // spares_bytes, for every input.
+#![tactic(auto)]
+
 ghost use Rattle.std.specs.Prelude.{◌≡◌, ◌+◌, ◌*◌, ◌^◌, ◌≤◌, length};
 ghost use Rattle.dimacs.specs.Export.{exported};
 ghost use Rattle.dimacs.specs.Import.{imported};

@@ -149,7 +149,7 @@ module _ (s : List ℕ) (ok : refusal s ≡ 0) where
       many (inr l) F = omega (arith, F.freqs, cs_vertices)
 
   -- a sheet within them
-  module _ (k-few : k_of s ≤ hall_links) (n-few : n_of s ≤ hall_freqs) where
+  module _ (k_few : k_of s ≤ hall_links) (n_few : n_of s ≤ hall_freqs) where
     cs_small : Small (counts_of s)
     cs_small = let l = cs_length in let v = cs_vertices in record {
       links_some = omega (arith, (accepted s ok).head.k_some);

@@ -2,6 +2,8 @@
 // of the k classes stand from `masks` on, the rows of the n vertices from `graph` on, and the classes from d on remain.
 // The contracts cite `Filtered` of specs/Filtered.antt: for every graph that the words hold, what a filter leaves is
 // what its definition leaves.
+#![tactic(auto)]
+
 mod failed_rows;
 mod pre_filter_rows;
 mod reach_rows;
@@ -22,7 +24,7 @@ use sweep_rows::sweep;
 
 // How strikes of a filter came out: a remaining class is empty, or will be; or the filter goes on, and a vertex was
 // struck or not.
-#[derive(Drop)]
+#[derive(Clone, Copy)]
 enum Step {
     Shut,
     Open { struck: bool },

@@ -1,5 +1,7 @@
 // The graph of a sheet, its microstructure: its adjacency rows in the work words.
 // The contracts cite `Built` of specs/Rows.antt, and `build_graph` that the rows are `edge` of specs/Graph.antt.
+#![tactic(auto)]
+
 mod buckets;
 mod start;
 

@@ -1,5 +1,7 @@
 // Export of a sheet to the solver benches: its graph as DIMACS text, and the counts of its links as a second text.
 // The contract cites `exported` of the crate `dimacs`, for every input.
+#![tactic(auto)]
+
 mod edges;
 mod texts;
 
@@ -17,7 +19,7 @@ use sheet::{Cause, Reading, cause_number, check_sheet, freqs_of, links_of};
 use zeros::zero_bytes;
 
 // What an export says: both texts are written, the sheet is refused, or an output is too short.
-#[derive(Drop)]
+#[derive(Clone, Copy)]
 pub enum ExportAnswer {
     Written,
     BadSheet(Cause),
@@ -25,14 +27,14 @@ pub enum ExportAnswer {
 }
 
 // The lengths of the graph text and of the count text.
-#[derive(Drop)]
+#[derive(Clone, Copy)]
 struct Lengths {
     pub graph: usize,
     pub counts: usize,
 }
 
 // The answer with both lengths.
-#[derive(Drop)]
+#[derive(Clone, Copy)]
 pub struct Exported {
     pub answer: ExportAnswer,
     pub graph: usize,

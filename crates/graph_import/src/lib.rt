@@ -1,5 +1,7 @@
 // Import of a graph text and a count text from the solver benches: the sheet of the graph that they say.
 // The contract cites `imported` of the crate `dimacs`, for every input.
+#![tactic(auto)]
+
 ghost use Rattle.std.specs.Prelude.{◌≡◌, ◌≤◌, length};
 ghost use Rattle.vset.specs.Words.{has};
 ghost use Rattle.sheet.specs.Sheet.{end_at};
@@ -16,7 +18,7 @@ use zeros::zero_bytes;
 
 // What an import says: the sheet is written, a text is malformed or outside the limits, an edge is inside a link or
 // repeated, or there are too many pairs or the output is too short.
-#[derive(Drop)]
+#[derive(Clone, Copy)]
 pub enum ImportAnswer {
     Written,
     Malformed,
@@ -25,7 +27,7 @@ pub enum ImportAnswer {
 }
 
 // The answer with the sheet's length.
-#[derive(Drop)]
+#[derive(Clone, Copy)]
 pub struct Imported {
     pub answer: ImportAnswer,
     pub length: usize,

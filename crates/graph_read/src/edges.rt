@@ -9,14 +9,14 @@ use crate::{Field, read_field};
 use vset::{contains, insert};
 
 // An edge by its vertices from 0, and the place after its line, or none.
-#[derive(Drop)]
+#[derive(Clone, Copy)]
 pub enum EdgeLine {
     Edge { u: usize, v: usize, next: usize },
     NoEdge,
 }
 
 // The `e` lines: how many, and whether one is inside a link or repeated; or that one is malformed.
-#[derive(Drop)]
+#[derive(Clone, Copy)]
 pub enum EdgesRead {
     Lines { count: usize, clash: bool },
     BadLines,

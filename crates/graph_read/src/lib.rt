@@ -1,6 +1,8 @@
 // Reading a graph text and a count text from the solver benches.
 // The contracts cite `Reading` of the crate `dimacs`, through specs/Read.antt (numbers and counts) and
 // specs/Graphs.antt (edges).
+#![tactic(auto)]
+
 mod edges;
 mod links;
 
@@ -15,21 +17,21 @@ use edges::{EdgesRead, read_graph};
 use links::{fill_layers, first_of};
 
 // A number that was read: its value, as far as it can matter, and the place after it.
-#[derive(Drop)]
+#[derive(Clone, Copy)]
 pub struct Digits {
     pub value: usize,
     pub next: usize,
 }
 
 // The same, or none.
-#[derive(Drop)]
+#[derive(Clone, Copy)]
 pub enum Field {
     Got { value: usize, next: usize },
     Nothing,
 }
 
 // The counts of a text: how many, or that it is malformed.
-#[derive(Drop)]
+#[derive(Clone, Copy)]
 pub enum CountsRead {
     Links(usize),
     Malformed,
@@ -37,7 +39,7 @@ pub enum CountsRead {
 
 // Both texts: the graph of k links and n vertices, an edge inside a link or repeated, or that one of the texts is
 // malformed.
-#[derive(Drop)]
+#[derive(Clone, Copy)]
 pub enum TextsRead {
     Graph { k: usize, n: usize },
     Clashing,

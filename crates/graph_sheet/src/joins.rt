@@ -10,14 +10,14 @@ ghost use Rattle.graph_sheet.specs.Pairs.{TwoOf, Among, joined_in, PairCount, Ru
 use graph_read::is_joined;
 
 // The links and the vertices of a graph.
-#[derive(Drop)]
+#[derive(Clone, Copy)]
 pub struct Sizes {
     pub links: usize,
     pub vertices: usize,
 }
 
 // Two links: the first vertex and the count of each.
-#[derive(Drop)]
+#[derive(Clone, Copy)]
 pub struct Two {
     pub first: usize,
     pub count: usize,
@@ -26,14 +26,14 @@ pub struct Two {
 }
 
 // Whether two links get a rule, and how many pairs join them.
-#[derive(Drop)]
+#[derive(Clone, Copy)]
 pub struct RuleAt {
     pub ruled: bool,
     pub pairs: usize,
 }
 
 // Rules, and the pairs of their links.
-#[derive(Drop)]
+#[derive(Clone, Copy)]
 pub struct Totals {
     pub rules: usize,
     pub pairs: usize,

@@ -1,5 +1,7 @@
 // Planning in the buffers of a hall, as the printing program and the console do: a sheet of form 3 is refused, every
 // other one is planned. The contracts cite specs/Hall.antt, for every input.
+#![tactic(auto)]
+
 ghost use Rattle.std.specs.Prelude.{◌≡◌, length};
 ghost use Rattle.rules.specs.Job.{job_with};
 ghost use Rattle.setting.specs.Setting.{setting_of};

@@ -1,6 +1,8 @@
 // The heaviest job: of all sheets of k links with m frequencies each, one whose tree is the largest under filter 0 and
 // choice 0, into a lent buffer. The contract of `heaviest` cites `heaviest_of` of the crate `heaviest_sheet`, for every
 // input; that the sheet is such a job is shown there.
+#![tactic(auto)]
+
 mod edges;
 
 ghost use Rattle.std.specs.Prelude.{◌≡◌, ◌*◌, ◌<◌, length, take};
@@ -16,14 +18,14 @@ use graph_sheet::{Sizes, count_rules, put_sheet};
 use zeros::zero_bytes;
 
 // What the call says: the sheet is written, or a size or the buffer is out of range.
-#[derive(Drop)]
+#[derive(Clone, Copy)]
 pub enum HeaviestAnswer {
     Written,
     OutOfRange,
 }
 
 // The answer with the sheet's length.
-#[derive(Drop)]
+#[derive(Clone, Copy)]
 pub struct HeaviestSheet {
     pub answer: HeaviestAnswer,
     pub length: usize,

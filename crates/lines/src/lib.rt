@@ -1,5 +1,7 @@
 // Numbers in decimal and lines of text, put into a lent output. The contracts say by `Wrote` of the crate `output` that
 // the bytes of specs/Lines.antt were put.
+#![tactic(auto)]
+
 ghost use Rattle.std.specs.Prelude.{◌+◌, ◌≤◌, ◌<◌, length};
 ghost use Rattle.output.specs.Output.{most_text, Wrote};
 ghost use Rattle.lines.specs.Lines.{decimal, ending, line};

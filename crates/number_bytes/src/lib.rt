@@ -1,5 +1,7 @@
 // Numbers as bytes, little-endian, written into a lent output and followed by zeros.
 // The contracts cite specs/NumberBytes.antt, over the bytes of a number.
+#![tactic(auto)]
+
 ghost use Rattle.std.specs.Prelude.{◌≡◌, ◌/◌, ◌%◌, ◌^◌, length};
 ghost use Rattle.number_bytes.specs.NumberBytes.{byte_at, number_bytes};
 

@@ -1,5 +1,7 @@
 // Bytes written one after another into a lent output that may be too short: what does not fit is counted and not
 // written. The contracts cite `Wrote` of specs/Output.antt.
+#![tactic(auto)]
+
 ghost use Rattle.std.specs.Prelude.{[], ◌∷◌, ◌+◌, ◌≤◌, ◌<◌, length};
 ghost use Rattle.output.specs.Output.{most_text, Wrote};
 

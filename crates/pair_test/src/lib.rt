@@ -1,5 +1,7 @@
 // An accepted sheet's sections and layers, and the pair test of two of its vertices.
 // The contracts cite `Layers`, `Parts`, `Pairs` and `Asked`.
+#![tactic(auto)]
+
 mod layers;
 mod lists;
 mod pairs;

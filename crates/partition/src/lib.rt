@@ -1,6 +1,8 @@
 // The working partition: a class for each of n vertices, below k, and no two adjacent vertices in a class.
 // The contracts cite specs/Partition.antt, the classes of each choice, and specs/Words.antt, how graph and classes
 // stand in words.
+#![tactic(auto)]
+
 mod classes;
 mod degrees;
 mod masks;

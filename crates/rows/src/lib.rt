@@ -1,6 +1,8 @@
 // Rows of w words inside one part of the work words. A row is named by the place of its first word.
 // The contracts cite `set_at` of specs/Rows.antt, the set in the row at a place, and `Put`: a row was written, and no
 // other word.
+#![tactic(auto)]
+
 ghost use Rattle.std.specs.Prelude.{◌≡◌, ◌+◌, ◌*◌, ◌^◌, ◌<◌, ◌≤◌, length};
 ghost use Rattle.sets.specs.Below.{count};
 ghost use Rattle.sets.specs.Sets.{◌∩◌, ◌∪◌, ◌∖◌, just, nothing};

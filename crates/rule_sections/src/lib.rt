@@ -1,5 +1,7 @@
 // The rule section and the pair section of a job sheet.
 // The contracts cite `Rules`, what their rows have to say.
+#![tactic(auto)]
+
 mod pair_rows;
 mod rule_rows;
 

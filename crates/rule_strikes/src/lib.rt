@@ -1,5 +1,7 @@
 // What one rule row leaves in the adjacency rows of its links, and stretches of vertices in a row.
 // The contracts cite specs/Strikes.antt.
+#![tactic(auto)]
+
 mod span;
 mod strike;
 
@@ -9,7 +11,7 @@ pub use strike::{rule_side, side_of};
 // One side of a rule row: its kind, value and count; the widths of its links together; the vertices of one of its
 // links, from `from` up to `upto`, whose rows it changes; and those of its other link, from `first` up to `end`, of
 // which it leaves there what it allows. `turned` where the other link is the lower one.
-#[derive(Drop)]
+#[derive(Clone, Copy)]
 pub struct Side {
     pub kind: usize,
     pub value: usize,

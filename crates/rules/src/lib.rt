@@ -1,5 +1,7 @@
 // The plan check: whether cells keep every rule of a job.
 // The contracts cite `Plans` and `Asked`; `Job` is what is planned and checked.
+#![tactic(auto)]
+
 mod plans;
 
 ghost use Rattle.std.specs.Prelude.{◌≡◌};
@@ -13,7 +15,7 @@ pub use plans::{cells_listed, cells_spare};
 use sheet::{Reading, cause_number, check_sheet, links_of};
 
 // What the plan check says.
-#[derive(Drop)]
+#[derive(Clone, Copy)]
 pub enum CheckAnswer {
     No,
     Yes,

@@ -1,10 +1,12 @@
 // The setting of a planning call: its numbers, and whether they are in range.
-// The contract cites `inRange` of specs/Setting.antt.
+// The contract cites `in_range` of specs/Setting.antt.
+#![tactic(auto)]
+
 ghost use Rattle.std.specs.Prelude.{◌≡◌};
 ghost use Rattle.setting.specs.Setting.{in_range};
 
 // The numbers of a setting: filter number, partition choice, limit on the nodes. The caller's list is lent beside them.
-#[derive(Drop)]
+#[derive(Clone, Copy)]
 pub struct Options {
     pub filter: u32,
     pub choice: u32,

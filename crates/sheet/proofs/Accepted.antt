@@ -38,10 +38,10 @@ head_is s f l n o =
     let n_few = leb-true (n_of s) (form_of s).freqs y.1 in
     record {
       k_some = ltb-true 0 (k_of s) v.0;
-      k_few = k-few;
+      k_few = k_few;
       k_small = omega (arith, f-small.links);
       n_some = ltb-true 0 (n_of s) y.0;
-      n_few = n-few;
+      n_few = n_few;
       n_small = omega (arith, f-small.freqs);
       q_small = leb-true (q_of s) most_rules x.1;
       t_small = leb-true (t_of s) most_pairs w.1;

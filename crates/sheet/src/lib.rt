@@ -1,6 +1,8 @@
 // The reader of job sheets: accepted, or the first cause that refuses the sheet; and where its counts and sections are.
 // The contracts cite `Sheet`, what header and rows have to say, and `Refusal`, the causes 1 to 8 and 16 in the order
 // tested.
+#![tactic(auto)]
+
 mod freq_rows;
 mod header;
 mod link_rows;
@@ -17,7 +19,7 @@ pub use places::{end_at, freqs_at, freqs_of, links_of, pairs_at, pairs_of, rules
 use sections::sections;
 
 // Why the reader refuses a sheet.
-#[derive(Drop)]
+#[derive(Clone, Copy)]
 pub enum Cause {
     Form,
     Links,
@@ -31,14 +33,14 @@ pub enum Cause {
 }
 
 // What the reader says of a sheet: accepted, or the first cause that refuses it.
-#[derive(Drop)]
+#[derive(Clone, Copy)]
 pub enum Reading {
     Fine,
     Refused(Cause),
 }
 
 // A link row that keeps its rule, or none.
-#[derive(Drop)]
+#[derive(Clone, Copy)]
 enum Row {
     Link { first: usize, count: usize },
     Bad,

@@ -1,5 +1,7 @@
 // What a sheet's form says, and the fields of its rows, each by the row's number in its section.
 // The contracts cite `Form`, what each form has, and `Rows`: how many bytes a row takes, and where its fields are.
+#![tactic(auto)]
+
 mod forms;
 mod links;
 
@@ -14,7 +16,7 @@ use wire::{half, word};
 
 // What a form of sheet has: whether there is one, the bytes of a link row, the most links and frequencies, and the work
 // words that planning needs.
-#[derive(Drop)]
+#[derive(Clone, Copy)]
 pub struct Form {
     pub known: bool,
     pub bytes: usize,

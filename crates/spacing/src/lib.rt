@@ -1,5 +1,7 @@
 // Spacing to spare, a signed number of half kHz: of a rule's numbers and without a rule. The contracts cite
 // specs/Spacing.antt.
+#![tactic(auto)]
+
 ghost use Rattle.std.specs.Prelude.{◌≡◌, ◌^◌, ◌<◌};
 ghost use Rattle.std.proofs.Math.IntN.{sub_ℕ};
 ghost use Rattle.spacing.specs.Spacing.{distance as distance_of, zero_or_more, spare_by, spare_without};

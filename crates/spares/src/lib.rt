@@ -1,5 +1,7 @@
 // What each pair of a plan has to spare, for a rack display, and what the plan check says of it.
 // The contracts cite `Table` and `Spares`.
+#![tactic(auto)]
+
 mod table;
 
 ghost use Rattle.std.specs.Prelude.{◌≡◌, true, ◌&&◌, ◌≤◌, length};

@@ -1,4 +1,6 @@
 // The call for spares with numbers and byte slices. The contracts cite specs/SparesBytes.antt, for every input.
+#![tactic(auto)]
+
 ghost use Rattle.std.specs.Prelude.{◌≡◌, ◌*◌, ◌/◌, ◌≤◌, min, pos, length, get_or};
 ghost use Rattle.sets.specs.Below.{tabulate};
 ghost use Rattle.rules.specs.Job.{job_with};

@@ -1,5 +1,7 @@
 // The strikes of the channels on air in the work words: the root row gets the vertices that are left, and rows are cut
 // to it. The contracts cite specs/Struck.antt, and `strike_graph` that the rows are `edge` of the job.
+#![tactic(auto)]
+
 ghost use Rattle.std.specs.Prelude.{◌≡◌, true, ℕ, ◌+◌, ◌*◌, ◌<◌, ◌≤◌, length};
 ghost use Rattle.sets.specs.Sets.{Set, ◌∩◌, ◌∖◌, just, whole};
 ghost use Rattle.channels.specs.Channels.{channels_ok};

@@ -134,6 +134,6 @@ module _ (s : List ℕ) (m : ℕ) (long : 62120 < m) (within : m ≤ length s) w
       -- two sheets with the same outcome, which is no plan that was found
       alike : (f : List ℕ → Outcome) (o : Outcome) → f (take m s) ≡ o → f s ≡ o → (o.answer ≡ 100 → ⊥)
           → printed_of (k_of (take m s)) (f (take m s)) ≡ printed_of (k_of s) (f s)
-      alike f o a b says_no_plan =
-          ap (λ p. printed_of (k_of (take m s)) p) a ∙ printed_any o (k_of (take m s)) (k_of s) no-plan
+      alike f o a b unplanned =
+          ap (λ p. printed_of (k_of (take m s)) p) a ∙ printed_any o (k_of (take m s)) (k_of s) unplanned
           ∙ ap (λ p. printed_of (k_of s) p) (sym b)

@@ -1,5 +1,7 @@
 // The text that the program prints: the answer for a sheet in bytes, one line for the answer and, on found, one for
 // each link. The contract of `put_text` cites `printed` of specs/Text.antt, for every sheet.
+#![tactic(auto)]
+
 mod link_lines;
 
 ghost use Rattle.std.specs.Prelude.{◌≡◌, ◌≤◌, length};

@@ -150,7 +150,7 @@ module _ (G : Graph) (m z x : ℕ) (S : FullGraph G m z x) where
       let w = first n (in_class G d L) in
       let t : any n (in_class G d L) ≡ true = rw e y in
       case (Takes true 1) (is_open G d L) _ _
-      (λ o. takes_plus true 0 turn (subst (λ q. Takes true q turn) (omega arith)
+      (λ o. takes_plus true 0 turn (subst (λ q. Takes true q turn) {y = 0} (omega arith)
       (in_turn_found 0 _ (in_class G d L) n w (first_lt n _ t) (first_is n _ t)
       (λ v h i. clash (in_class G d L v) i (first_least n _ v h))
       (takes_choose true 0 d w (node false G plain 0 (suc d) (L ∩ adj w)) (omega arith)))))

@@ -1,4 +1,6 @@
 // Calls of counting beside what is wanted of them: the answer, the nodes, the plan, and the plans left for each vertex.
+#![tactic(auto)]
+
 mod calls;
 mod held;
 

@@ -1,5 +1,7 @@
 // The counting call of the test program of the counts with several faults at once, which says the causes in the order
 // tested.
+#![tactic(auto)]
+
 ghost use Rattle.std.specs.Prelude.{◌≡◌, length};
 
 use trial_counts_calls::{MOST, ask_counts};

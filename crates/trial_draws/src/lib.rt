@@ -1,4 +1,6 @@
 // Jobs of the test program from a fixed pseudo-random sequence.
+#![tactic(auto)]
+
 mod making;
 mod on_air;
 mod sequence;

@@ -1,5 +1,7 @@
 // Jobs of the test program, written apart from the planner: a small job's graph, greedy classes, a brute-force solver,
 // and jobs and class lists of a pseudo-random sequence. All of it works on plain numbers in tables, and on any numbers.
+#![tactic(auto)]
+
 mod adjacency;
 mod brute;
 mod classes;

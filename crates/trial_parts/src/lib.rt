@@ -1,5 +1,7 @@
 // Parts of the test program: the words and numbers of the input, the jobs that its rows say, jobs at the limits, and
 // all of `trial_tables`.
+#![tactic(auto)]
+
 mod even;
 mod input;
 mod reading;

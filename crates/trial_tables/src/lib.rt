@@ -1,5 +1,7 @@
 // Tables of the test program: reads, writes and sums at any place and of any numbers, the fields of a job in a table,
 // and the sheet that says them.
+#![tactic(auto)]
+
 mod job;
 pub mod kept;
 mod parts;

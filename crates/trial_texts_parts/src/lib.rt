@@ -1,6 +1,8 @@
 // Parts of the test program of the texts, written apart from export and import: a job's graph as a table, the two
 // texts that are wanted of it, the job whose sheet import is to give back, texts of the rows, and the comparison of
 // bytes. All of it works on any numbers.
+#![tactic(auto)]
+
 mod back;
 mod joined;
 mod matching;

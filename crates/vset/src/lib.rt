@@ -1,6 +1,8 @@
 // Sets of vertices, kept in words of 64 bits. A row of words is a set: vertex v is bit v % 64 of word v / 64.
 // A row is a slice, of any number of words; rows inside one slice are in the crate `rows`.
 // The contracts cite `has` of specs/Words.antt, the set that a row keeps, and the set operations of the crate `sets`.
+#![tactic(auto)]
+
 ghost use Rattle.std.specs.Prelude.{◌≡◌, ◌*◌, ◌^◌, ◌<◌, ◌≤◌, length};
 ghost use Rattle.sets.specs.Below.{count};
 ghost use Rattle.sets.specs.Sets.{◌∩◌, ◌∪◌, ◌∖◌, just};

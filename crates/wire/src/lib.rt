@@ -1,5 +1,7 @@
 // Little-endian fields of a slice of bytes.
 // The contracts cite `Fields`: what 16 and 32 bits at a byte are.
+#![tactic(auto)]
+
 ghost use Rattle.std.specs.Prelude.{◌≡◌, ◌+◌, ◌<◌, ◌≤◌, length};
 ghost use Rattle.wire.specs.Fields.{le16, le32};
 

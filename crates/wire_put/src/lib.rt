@@ -1,6 +1,8 @@
 // Little-endian fields, put into a lent output that may be too short.
 // The contracts say by `Wrote` of the crate `output` that the bytes of 16 and 32 bits were put: `bytes16` of the crate
 // `wire`, and `full` and `fulls` of specs/Puts.antt.
+#![tactic(auto)]
+
 ghost use Rattle.std.specs.Prelude.{◌++◌, ◌+◌, ◌*◌, ◌≤◌, ◌<◌, length};
 ghost use Rattle.wire.specs.Fields.{bytes16};
 ghost use Rattle.output.specs.Output.{Wrote, most_text};

@@ -1,6 +1,8 @@
 // The work words of a job: where its rows lie, and how they are filled before the search, with the rows of the graph,
 // the masks of the layers and of the classes, and the root row; a struck vertex is in none of them. The contract of
 // `fill_words` cites `Filled` of specs/Filled.antt.
+#![tactic(auto)]
+
 mod places;
 
 ghost use Rattle.std.specs.Prelude.{◌≡◌, ◌+◌, ◌*◌, ◌<◌, ◌≤◌, length};
@@ -18,7 +20,7 @@ use setting::Options;
 use strikes::{cut_rows, put_unstruck, strike_graph};
 
 // A row is w words.
-#[derive(Drop)]
+#[derive(Clone, Copy)]
 pub struct Layout {
     pub w: usize,
     pub masks: usize,

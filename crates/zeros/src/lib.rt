@@ -1,6 +1,8 @@
 // Zeroes cells, words and bytes: "Plan cells and work words are zeroed on every refusal of a planning call", the work
 // words after every call, and "every lent output" of an export or an import that is refused.
 // The contracts cite `zeros` of specs/Zeros.antt.
+#![tactic(auto)]
+
 ghost use Rattle.std.specs.Prelude.{◌≡◌, length};
 ghost use Rattle.zeros.specs.Zeros.{zeros};
 

@@ -1,0 +1,14 @@
+-- `channels::covers` meets its contract.
+use borrow.Author.Rules.{rules}
+use Rattle.channels.specs.Channels.{lower_edge, covers}
+use Rattle.channels.proofs.covers.Goals as goal
+
+pub overflow_add-result : goal.overflow_add-result
+unfolding lower_edge
+overflow_add-result c =
+    search rules
+
+pub returns : goal.returns
+unfolding covers
+returns c =
+    cc

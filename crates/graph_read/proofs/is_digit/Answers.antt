@@ -1,0 +1,12 @@
+-- `graph_read::is_digit` meets its contract.
+use mathlib.Core.Path.{refl}
+use Rattle.graph_read.proofs.Numbers.{digit_low, digit_high}
+use Rattle.graph_read.proofs.is_digit.Goals as goal
+
+pub returns-then-b-lt48 : goal.returns-then-b-lt48
+returns-then-b-lt48 c =
+    digit_low _ c.if-b-lt48.true
+
+pub returns : goal.returns
+returns c =
+    digit_high _ c.if-b-lt48.false _ refl

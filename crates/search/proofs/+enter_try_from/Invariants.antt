@@ -1,0 +1,21 @@
+-- `search::enter` and `search::try_from` meet their contracts. The measure weighs what is left of the depth and of
+-- the vertices: a level is worth n + 2. The invariant of the loop over the vertices: walking those that are left is
+-- walking all (`Left`). The answers are only the paths into what is known at each place; the steps are laws of `Steps`.
+use Rattle.std.proofs.Common.{◌+◌, ◌-◌, ◌*◌}
+use Rattle.cliques.specs.Words.{placed}
+use Rattle.search.proofs.Steps.{Left}
+use Rattle.search.proofs.+enter_try_from.Given as goal
+
+abbrev pub decreases-enter : goal.decreases-enter
+decreases-enter l = (l.k - l.d) * (l.n + 2) + (l.n + 1)
+
+abbrev pub decreases-try_from : goal.decreases-try_from
+decreases-try_from l = (l.k - l.d) * (l.n + 2) + (l.n - l.first)
+
+abbrev pub invariant-try_from-loop-place : goal.invariant-try_from-loop-place
+invariant-try_from-loop-place l =
+    Left l.filters (placed l.w l.masks l.graph l.n l.k) l.d l.used l.limit l.first l.initial.part l.initial.chosen l.nodes
+    l.from l.part l.chosen
+
+abbrev pub decreases-try_from-loop-place : goal.decreases-try_from-loop-place
+decreases-try_from-loop-place l = l.n - l.from

@@ -1,0 +1,16 @@
+-- The sheet's part is its link section, and `link_bytes` gives the length of its rows.
+use native.Mathlib.Omega.{arith}
+use lib.ListN.{length-drop}
+use Rattle.sheet_rows.specs.Rows.{link_first}
+use Rattle.sheet_rows.proofs.Rows.{part_from}
+use Rattle.sheet_rows.proofs.links.link_first.Goals as goal
+
+pub row_first-requires : goal.row_first-requires
+row_first-requires c =
+    let e = c.link_bytes.ensures.0 in
+    simp (part_from, length-drop, e) (omega arith, omega (arith, e, c.link_bytes.ensures.1))
+
+pub returns : goal.returns
+unfolding link_first
+returns c =
+    rw (part_from, c.link_bytes.ensures.0) at c.row_first.ensures
