@@ -1,5 +1,5 @@
-/* Guvtemi's two calls for a console's C or C++ program. Link with target/staticlib/libconsole.a
-   (written by `rt staticlib console`; x86-64).
+/* Guvtemi's two calls for a console's C or C++ program. Link with crates/console/out/libconsole.a
+   (written by `rt lib` in crates/console; x86-64).
 
    A sheet is bytes as in docs/FORMAT.md: guvtemi_plan plans forms 1 and 2, guvtemi_check takes form 3 too. Sheets of
    form 3, with up to 128 links, are planned by guvtemi_plan_job of guvtemi_desk.h. Cells are bytes too: four a cell,

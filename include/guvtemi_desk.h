@@ -1,8 +1,8 @@
 /* Guvtemi's calls for a planner's desk: a job planned and checked with the television channels on air, how many plans
    use each of its frequencies, the spare spacing of every two links of a plan, a sheet's graph as DIMACS text, a sheet
-   from such a text, and the job that takes the most nodes. Link with target/staticlib/libdesk.a (written by
-   `rt staticlib desk`; x86-64). The numbers of an answer and guvtemi_number, guvtemi_nodes and guvtemi_khz are those of
-   guvtemi.h, which this header includes; the two functions declared there are in libconsole.a.
+   from such a text, and the job that takes the most nodes. Link with crates/desk/out/libdesk.a (written by
+   `rt lib` in crates/desk; x86-64). The numbers of an answer and guvtemi_number, guvtemi_nodes and guvtemi_khz are those
+   of guvtemi.h, which this header includes; the two functions declared there are in libconsole.a.
 
    A sheet is bytes as in docs/FORMAT.md, of form 1, 2 or 3; every call that reads one takes all three. A channel list is
    bytes too, a channel on air each, 21 to 48, strictly rising; channel c covers 470,000 + 8,000(c - 21) kHz up to, but

@@ -160,11 +160,11 @@ def _(_):
     with tempfile.TemporaryDirectory() as folder:
         root = Path(folder) / "root"
         shutil.copytree(ROOT / "tools", root / "tools", ignore=shutil.ignore_patterns("__pycache__"))
-        (root / "target" / "staticlib").mkdir(parents=True)
+        (root / "crates" / "desk" / "out").mkdir(parents=True)
         source, object_file = Path(folder) / "old.c", Path(folder) / "old.o"
         source.write_text("unsigned long long guvtemi_plan_job(void) { return 0; }\n")
         run(["gcc", "-fPIC", "-c", "-o", object_file, source])
-        run(["ar", "rcs", root / "target" / "staticlib" / "libdesk.a", object_file])
+        run(["ar", "rcs", root / "crates" / "desk" / "out" / "libdesk.a", object_file])
         done = run([root / "tools" / "sheet", "counts", EXAMPLES / "edges.txt"])
         need(done.returncode == 2 and "is from before guvtemi_count_job" in done.stderr.decode(), f"an older library: {done.stderr.decode()[:300]}")
 

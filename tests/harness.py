@@ -4,7 +4,7 @@ import re
 
 from native import ROOT, Failed, run
 
-PROGRAM = ROOT / "target" / "bin" / "plan"
+PROGRAM = ROOT / "crates" / "plan" / "out" / "plan"
 SHEET = ROOT / "tools" / "sheet"
 EXAMPLES = ROOT / "examples"
 TESTS = []

@@ -21,8 +21,8 @@ HEADERS = {"guvtemi.h": (ARCHIVE, {"guvtemi_plan", "guvtemi_check"}),
 
 @test("the archives and the program are there")
 def _(_):
-    for path, made_by in ((ARCHIVE, "rt staticlib console"), (DESK_ARCHIVE, "rt staticlib desk"), (PROGRAM, "rt check plan")):
-        need(path.exists(), f"{path.relative_to(ROOT)} is missing: '{made_by}' writes it")
+    for path, made_by in ((ARCHIVE, "rt lib"), (DESK_ARCHIVE, "rt lib"), (PROGRAM, "rt run </dev/null")):
+        need(path.exists(), f"{path.relative_to(ROOT)} is missing: '{made_by}' in {path.parent.parent.relative_to(ROOT)} writes it")
 
 
 @test("headers: each and both compile alone as C99, C11 and C++17")

@@ -6,8 +6,8 @@ import subprocess
 from pathlib import Path
 
 ROOT = Path(__file__).resolve().parent.parent
-ARCHIVE = ROOT / "target" / "staticlib" / "libconsole.a"
-DESK_ARCHIVE = ROOT / "target" / "staticlib" / "libdesk.a"
+ARCHIVE = ROOT / "crates" / "console" / "out" / "libconsole.a"
+DESK_ARCHIVE = ROOT / "crates" / "desk" / "out" / "libdesk.a"
 BUILD = ROOT / "target" / "outside"
 WARNINGS = ["-Wall", "-Wextra", "-Werror", "-pedantic"]
 SANITIZE = ["-g", "-fsanitize=address,undefined", "-fno-sanitize-recover=all"]

@@ -201,12 +201,12 @@ def _(_):
     with tempfile.TemporaryDirectory() as folder:
         root, source, made = Path(folder) / "root", Path(folder) / "old.c", Path(folder) / "old.o"
         shutil.copytree(ROOT / "tools", root / "tools", ignore=shutil.ignore_patterns("__pycache__"))
-        for target in ("staticlib", "bin"):
-            (root / "target" / target).mkdir(parents=True)
-        shutil.copy(PROGRAM, root / "target" / "bin")
+        for crate in ("desk", "plan"):
+            (root / "crates" / crate / "out").mkdir(parents=True)
+        shutil.copy(PROGRAM, root / "crates" / "plan" / "out")
         source.write_text("unsigned long long guvtemi_export(void) { return 0; }\n")
         run(["gcc", "-fPIC", "-c", "-o", made, source])
-        run(["ar", "rcs", root / "target" / "staticlib" / "libdesk.a", made])
+        run(["ar", "rcs", root / "crates" / "desk" / "out" / "libdesk.a", made])
         for command in (["plan"], ["picture", "-o", "-"]):
             done = run([root / "tools" / "sheet", *command, EXAMPLES / "theatre.txt"])
             need(done.returncode == 2 and "is from before guvtemi_spares" in done.stderr.decode() and not done.stdout, f"{done.stderr.decode()[:300]}")

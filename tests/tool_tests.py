@@ -155,8 +155,9 @@ def _(_):
         for path in (root / "crates.txt", root / "a.sheet", source):
             path.write_text("plan:\n")
         shutil.copy(ROOT / "guvtemi", root)
-        (tools / "rt").write_text("#!/bin/sh\necho 'rt: plan proved (1 s)'\n[ -e broken ] && exit 1\nmkdir -p target/bin\n"
-                                  "printf '#!/bin/sh\\necho planned\\n' >target/bin/plan\nchmod +x target/bin/plan\n")
+        (tools / "rt").write_text('#!/bin/sh\n[ "$*" = run ] || exit 3\necho "rt: chose --jobs 2 for plan" >&2\n[ -e ../../broken ] && exit 1\n'
+                                  "mkdir -p out\nprintf '#!/bin/sh\\necho planned\\n' >out/plan\nchmod +x out/plan\n"
+                                  'echo "rt: running out/plan; to give it other input, run that file yourself" >&2\nout/plan\n')
         (tools / "rt").chmod(0o755)
 
         def told(with_rt=True):
@@ -164,7 +165,8 @@ def _(_):
             path = f"{tools}:/usr/bin:/bin" if with_rt else "/usr/bin:/bin"
             done = run(["env", f"PATH={path}", "sh", root / "guvtemi", root / "a.sheet"])
             need((done.stdout == b"planned\n") == (done.returncode == 0), f"printed {done.stdout!r} with status {done.returncode}")
-            return b"guvtemi: plan proved" in done.stderr, done.returncode
+            need(b"running" not in done.stderr, done.stderr.decode())
+            return b"guvtemi: proving plan" in done.stderr, done.returncode
 
         steps = [("not built", lambda: None, True), ("built", lambda: None, False), ("a touched file", source.touch, False),
                  ("a changed file", lambda: source.write_text("fn"), True), ("a new file", lambda: added.write_text("x"), True),
@@ -286,12 +288,13 @@ def _(_):
         root, rt = Path(folder) / "root", Path(folder) / "bin" / "rt"
         shutil.copytree(ROOT / "tools", root / "tools", ignore=shutil.ignore_patterns("__pycache__"))
         rt.parent.mkdir()
-        archive, shared = root / "target" / "staticlib" / "libdesk.a", root / "target" / "desk" / "libdesk.so"
+        archive, shared = root / "crates" / "desk" / "out" / "libdesk.a", root / "target" / "desk" / "libdesk.so"
+        archive.parent.parent.mkdir(parents=True)
 
         def told(script=None):
             """Status and standard error, with a command rt that does this; without a script there is none."""
             if script:
-                rt.write_text(f'#!/bin/sh\n[ "$*" = "staticlib desk" ] || exit 3\n{script}\n')
+                rt.write_text(f'#!/bin/sh\n[ "$*" = lib ] || exit 3\n{script}\n')
                 rt.chmod(0o755)
             path = f"{rt.parent}:/usr/bin:/bin" if script else "/usr/bin:/bin"
             command = [root / "tools" / "sheet", "dimacs", EXAMPLES / "theatre.sheet", "-o", Path(folder) / "out"]
@@ -300,11 +303,11 @@ def _(_):
 
         if not shutil.which("rt", path="/usr/bin:/bin"):
             status, said = told()
-            need(status == 2 and "rt staticlib desk" in said, f"without rt: status {status}, {said[:200]}")
+            need(status == 2 and f"'rt lib' in {root}/crates/desk" in said, f"without rt: status {status}, {said[:200]}")
         status, said = told("echo 'rt: desk refused'; exit 1")
         need(status == 2 and "was not built" in said, f"rt that fails: status {status}, {said[:200]}")
-        status, said = told(f"echo 'rt: desk proved (1 s)'; mkdir -p target/staticlib; cp '{DESK_ARCHIVE}' target/staticlib")
-        need(status == 0 and "proving and building" in said and "tools/sheet: desk proved (1 s)" in said, f"not built: status {status}, {said[:200]}")
+        status, said = told(f"echo 'rt: chose --jobs 2 for desk'; mkdir -p out; cp '{DESK_ARCHIVE}' out")
+        need(status == 0 and "proving and building" in said and "tools/sheet: proving desk" in said, f"not built: status {status}, {said[:200]}")
         made = shared.stat().st_mtime_ns
         need(told("exit 1") == (0, "") and shared.stat().st_mtime_ns == made, "built again without need")
         os.utime(archive, ns=(made + 10**9, made + 10**9))
@@ -675,11 +678,11 @@ def _(_):
         shutil.copytree(ROOT / "tools", root / "tools", ignore=shutil.ignore_patterns("__pycache__"))
         (root / "docs").mkdir()
         shutil.copy(ROOT / "docs" / "CHART.md", root / "docs")
-        (root / "target" / "staticlib").mkdir(parents=True)
+        (root / "crates" / "desk" / "out").mkdir(parents=True)
         source, object_file = Path(folder) / "old.c", Path(folder) / "old.o"
         source.write_text("unsigned long long guvtemi_export(void) { return 0; }\n")
         run(["gcc", "-fPIC", "-c", "-o", object_file, source])
-        run(["ar", "rcs", root / "target" / "staticlib" / "libdesk.a", object_file])
+        run(["ar", "rcs", root / "crates" / "desk" / "out" / "libdesk.a", object_file])
         done = run([root / "tools" / "sheet", "plan", EXAMPLES / "on-air.txt"])
         need(done.returncode == 2 and "is from before guvtemi_plan_job" in done.stderr.decode(), f"an older library: {done.stderr.decode()[:300]}")
 

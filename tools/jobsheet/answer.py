@@ -13,7 +13,8 @@ from .desk import NoAnswer
 from .spacing import clashes, keeps_rules
 
 ROOT = Path(__file__).resolve().parents[2]
-PROGRAM = ROOT / "target" / "bin" / "plan"
+PROGRAM = ROOT / "crates" / "plan" / "out" / "plan"
+BUILD_PLAN, BUILD_DESK = "'rt run </dev/null' in crates/plan", "'rt lib' in crates/desk"
 PATIENCE = 3  # seconds before a word that planning goes on
 SETTING = (7, 0, 1_000_000)  # filter, choice and limit, as the program has them
 COUNT_LIMIT, MOST_NODES = 100_000_000, 1_000_000_000
@@ -36,12 +37,12 @@ class Answer:
 def ask(data):
     """What the proved program answers to the bytes of a sheet."""
     if not PROGRAM.exists():
-        raise NoAnswer(f"the planner is not built. Build it with 'rt check plan' in {ROOT} (this needs the Rattle kit); "
+        raise NoAnswer(f"the planner is not built. Build it with {BUILD_PLAN} of {ROOT} (this needs the Rattle kit); "
                        "'./guvtemi FILE' there does the same and plans FILE.")
     try:
         process = subprocess.Popen([str(PROGRAM)], stdin=subprocess.PIPE, stdout=subprocess.PIPE, stderr=subprocess.DEVNULL)
     except OSError as error:
-        raise NoAnswer(f"the planner {PROGRAM} does not start ({error.strerror}). Build it again with 'rt check plan'.") from None
+        raise NoAnswer(f"the planner {PROGRAM} does not start ({error.strerror}). Build it again with {BUILD_PLAN}.") from None
     with process:
         try:
             printed, _ = process.communicate(data, timeout=PATIENCE)
@@ -52,7 +53,7 @@ def ask(data):
     if answer is None:
         ended = f"ended with status {process.returncode}" if process.returncode else "ended"
         raise NoAnswer(f"the planner {PROGRAM} {ended} and printed {printed[:60]!r}, which is no answer. "
-                       "Build it again with 'rt check plan'.")
+                       f"Build it again with {BUILD_PLAN}.")
     return answer
 
 
@@ -93,7 +94,7 @@ def _patiently(call, words):
         _go_on(words)
         thread.join()
     if not told or isinstance(told[0], NoAnswer):
-        raise told[0] if told else NoAnswer("the desk's call gave no answer. Build it again with 'rt staticlib desk'.")
+        raise told[0] if told else NoAnswer(f"the desk's call gave no answer. Build it again with {BUILD_DESK}.")
     return told[0]
 
 
@@ -118,7 +119,7 @@ def plan(sheet, channels=()):
     program does not plan."""
     by_desk = bool(channels) or sheet.form() == 3
     answer = ask_desk(encode(sheet), len(sheet.links), channels) if by_desk else ask(encode(sheet))
-    return _held(sheet, channels, answer, "rt staticlib desk" if by_desk else "rt check plan")
+    return _held(sheet, channels, answer, BUILD_DESK if by_desk else BUILD_PLAN)
 
 
 def count(sheet, channels=(), limit=COUNT_LIMIT):
@@ -128,8 +129,8 @@ def count(sheet, channels=(), limit=COUNT_LIMIT):
                                             f"counting, up to {limit:,} nodes: this can take minutes")
     if len({sum(listed) for listed in counts}) > 1 or (number == 100) != any(counts[0]):
         raise NoAnswer("the counts of the links sum to different numbers of plans: do not go by them. Build the library again with "
-                       "'rt staticlib desk'.")
-    return _held(sheet, channels, _told(number, nodes, khz, counts), "rt staticlib desk")
+                       f"{BUILD_DESK}.")
+    return _held(sheet, channels, _told(number, nodes, khz, counts), BUILD_DESK)
 
 
 def _held(sheet, channels, answer, build):
@@ -143,7 +144,7 @@ def _held(sheet, channels, answer, build):
         if number != YES or not keeps_rules(sheet, answer.khz, channels):
             clash = clashes(answer.spares)
             raise NoAnswer(f"the planner's plan does not keep the rules of this sheet{f' ({clash})' if clash else ''}: do not tune by it. "
-                           f"Build the planner again with '{build}'.")
+                           f"Build the planner again with {build}.")
     return answer
 
 

@@ -12,7 +12,7 @@ import sys
 from pathlib import Path
 
 ROOT = Path(__file__).resolve().parents[2]
-ARCHIVE = ROOT / "target" / "staticlib" / "libdesk.a"
+ARCHIVE = ROOT / "crates" / "desk" / "out" / "libdesk.a"
 SHARED = ROOT / "target" / "desk" / "libdesk.so"
 MOST_GRAPH_BYTES, MOST_COUNT_BYTES, ENOUGH_SHEET_BYTES = 5_117_642, 355, 65_536
 
@@ -105,7 +105,7 @@ def heaviest_nodes(links, each):
 def _function(name, arguments):
     function = getattr(_library(), name, None)
     if function is None:
-        raise NoAnswer(f"the desk library {ARCHIVE} is from before {name}. Build it again with 'rt staticlib desk' in {ROOT}.")
+        raise NoAnswer(f"the desk library {ARCHIVE} is from before {name}. Build it again with 'rt lib' in {ROOT}/crates/desk.")
     function.restype = ctypes.c_uint64
     function.argtypes = arguments
     return function
@@ -125,14 +125,15 @@ def _library():
 
 def _prove():
     if not shutil.which("rt"):
-        raise NoAnswer(f"the desk library is not built. Build it with 'rt staticlib desk' in {ROOT} (this needs the Rattle kit).")
-    print("tools/sheet: the desk library is not built yet; proving and building it, which takes a few minutes", file=sys.stderr, flush=True)
-    with subprocess.Popen(["rt", "staticlib", "desk"], cwd=ROOT, stdout=subprocess.PIPE, stderr=subprocess.STDOUT, text=True, errors="replace") as rt:
+        raise NoAnswer(f"the desk library is not built. Build it with 'rt lib' in {ROOT}/crates/desk (this needs the Rattle kit).")
+    print("tools/sheet: the desk library is not built yet; proving and building it, which takes long the first time", file=sys.stderr, flush=True)
+    with subprocess.Popen(["rt", "lib"], cwd=ROOT / "crates" / "desk", stdin=subprocess.DEVNULL, stdout=subprocess.PIPE, stderr=subprocess.STDOUT,
+                          text=True, errors="replace") as rt:
         for line in rt.stdout:
             if line.startswith("rt: "):
-                print(f"tools/sheet: {line[4:]}", end="", file=sys.stderr, flush=True)
+                print(f"tools/sheet: {re.sub(r'^chose --jobs [0-9]+ for', 'proving', line[4:])}", end="", file=sys.stderr, flush=True)
     if rt.returncode or not ARCHIVE.exists():
-        raise NoAnswer(f"the desk library was not built: 'rt staticlib desk' in {ROOT} says why.")
+        raise NoAnswer(f"the desk library was not built: 'rt lib' in {ROOT}/crates/desk says why.")
 
 
 def _link():
