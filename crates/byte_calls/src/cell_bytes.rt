@@ -10,9 +10,7 @@ pub fn get_cells(from: &[u8], to: &mut [u32])
     requires { 4 * length to.old ≤ length from.now }
     ensures { to.new ≡ tabulate (length to.old) (cell_in from.now) }
 {
-    let mut i = 0;
-    while i < to.len() {
-        to[i] = word(from, 4 * i) as u32;
-        i += 1;
+    for (i, cell) in to.iter_mut().enumerate() {
+        *cell = word(from, 4 * i) as u32;
     }
 }

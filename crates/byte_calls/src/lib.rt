@@ -4,57 +4,52 @@
 
 mod cell_bytes;
 
-ghost use Rattle.std.specs.Prelude.{◌≡◌, ◌+◌, ◌*◌, ◌^◌, ◌≤◌, min, ◌/◌, length};
+ghost use Rattle.std.specs.Fn.{FnOnceReturnsAtMut};
+ghost use Rattle.std.specs.Prelude.{List, ℕ, ◌≡◌, ◌+◌, ◌*◌, ◌^◌, ◌≤◌, min, ◌/◌, length};
 ghost use Rattle.sets.specs.Below.{tabulate};
+ghost use Rattle.sheet_rows.specs.Form.{hall_words, most_words};
 ghost use Rattle.rules.specs.Job.{job_with};
 ghost use Rattle.rules.specs.Plans.{checked};
 ghost use Rattle.setting.specs.Setting.{setting_of};
 ghost use Rattle.planner.specs.Outcome.{outcome};
-ghost use Rattle.planner.specs.Planned.{verdict_number};
+ghost use Rattle.planner.specs.Planned.{Planned, verdict_number, nodes_of, Gives};
 ghost use Rattle.hall_plan.specs.Hall.{hall_outcome};
-ghost use Rattle.byte_calls.specs.ByteCalls.{outcome_in, hall_outcome_in, checked_in, Handed, cell_in};
+ghost use Rattle.byte_calls.specs.ByteCalls.{outcome_in, hall_outcome_in, checked_in, Handed, cell_in, cell_bytes};
 
 pub use cell_bytes::get_cells;
 use hall_plan::plan_hall;
-use number_bytes::put_fours;
-use planner::{Planned, check, plan, verdict_number};
+use number_bytes::{Number, put_numbers};
+use planner::{Planned, answer_number, check, node_count, plan};
 use rules::check_number;
 use setting::Options;
 
 // The number that the caller is handed.
 pub fn number(p: Planned) -> u64
-    ensures { result ≡ p.nodes + 2 ^ 32 * verdict_number p.verdict }
+    ensures { result ≡ nodes_of p + 2 ^ 32 * verdict_number p }
 {
-    let nodes = p.nodes as u64;
-    let verdict = p.verdict;
-    nodes + 4294967296 * (verdict_number(verdict) as u64)
+    u64::from(node_count(p)) + 4294967296 * u64::from(answer_number(p))
 }
 
-// The cells that the library is lent, for a call with so many bytes: at most as many as there are.
-pub fn lent(bytes: usize, most: usize) -> usize
-    ensures { (result ≡ min (bytes / 4) most) × (result ≤ most) }
+// The numbers that the library is lent, for a call with so many bytes: at most as many as there are.
+pub fn lent<T: Number>(bytes: usize, most: usize) -> usize
+    ensures { (result ≡ min (bytes / T.BYTES) most) × (result ≤ most) }
 {
-    let m = bytes / 4;
-    if m < most { m } else { most }
+    (bytes / T::BYTES).min(most)
 }
 
-// Plans in the cells and words lent, and writes the cells as bytes.
-fn plan_into(
-    sheet: &[u8],
-    channels: &[u8],
-    options: Options,
-    classes: &[u8],
-    cells: &mut [u32],
-    work: &mut [u64],
-    bytes: &mut [u8],
-) -> u64
-    ensures { Handed (outcome (job_with sheet.now channels.now)
-        (setting_of options classes.now)
-        (length cells.old) (length work.old))
-        (length bytes.old) result bytes.new }
+// Plans in cells of the call's own, at most N, and writes them as bytes.
+fn plan_cells<const N: usize, P: FnOnce(&mut [u32]) -> Planned>(bytes: &mut [u8], plan: P) -> u64
+    requires callable { P.IsAlwaysCallable plan }
+    requires few { N ≤ 128 }
+    ensures { (before after : List ℕ) × (p : Planned) × FnOnceReturnsAtMut P.FnOnce plan before p after
+        × (length before ≡ min (length bytes.old / 4) N)
+        × (result ≡ nodes_of p + 2 ^ 32 * verdict_number p)
+        × (bytes.new ≡ cell_bytes after (length bytes.old)) }
 {
-    let p = plan(sheet, channels, options, classes, cells, work);
-    put_fours(cells, bytes);
+    let mut cells = [0u32; N];
+    let m = lent::<u32>(bytes.len(), N);
+    let p = plan(&mut cells[..m]);
+    put_numbers(&cells[..m], bytes);
     number(p)
 }
 
@@ -71,37 +66,13 @@ pub fn plan_bytes(
         (length bytes.old) result bytes.new }
 {
     let mut work = [0u64; 32768];
-    let mut cells = [0u32; 128];
-    let m = lent(bytes.len(), 128);
-    plan_into(
-        sheet,
-        channels,
-        options,
-        classes,
-        &mut cells[..m],
-        &mut work,
+    plan_cells::<128, _>(
         bytes,
+        |cells|
+            ensures { Gives (outcome (job_with sheet.entry.now channels.entry.now)
+                (setting_of options classes.entry.now) (length cells.old) most_words) result cells.new }
+        { plan(sheet, channels, options, classes, cells, &mut work) },
     )
-}
-
-// Plans a job of a hall in the cells and words lent, and writes the cells as bytes.
-fn plan_hall_into(
-    sheet: &[u8],
-    channels: &[u8],
-    options: Options,
-    classes: &[u8],
-    cells: &mut [u32],
-    work: &mut [u64],
-    bytes: &mut [u8],
-) -> u64
-    ensures { Handed (hall_outcome (job_with sheet.now channels.now)
-        (setting_of options classes.now)
-        (length cells.old) (length work.old))
-        (length bytes.old) result bytes.new }
-{
-    let p = plan_hall(sheet, channels, options, classes, cells, work);
-    put_fours(cells, bytes);
-    number(p)
 }
 
 // Plans a job of a hall. The work words are the call's own, and as few as a hall needs.
@@ -117,16 +88,12 @@ pub fn plan_hall_bytes(
         (length bytes.old) result bytes.new }
 {
     let mut work = [0u64; 8192];
-    let mut cells = [0u32; 64];
-    let m = lent(bytes.len(), 64);
-    plan_hall_into(
-        sheet,
-        channels,
-        options,
-        classes,
-        &mut cells[..m],
-        &mut work,
+    plan_cells::<64, _>(
         bytes,
+        |cells|
+            ensures { Gives (hall_outcome (job_with sheet.entry.now channels.entry.now)
+                (setting_of options classes.entry.now) (length cells.old) hall_words) result cells.new }
+        { plan_hall(sheet, channels, options, classes, cells, &mut work) },
     )
 }
 
@@ -137,7 +104,7 @@ fn check_into(sheet: &[u8], channels: &[u8], bytes: &[u8], cells: &mut [u32]) ->
         (tabulate (length cells.old) (cell_in bytes.now)) }
 {
     get_cells(bytes, cells);
-    check_number(check(sheet, channels, cells)) as u64
+    u64::from(check_number(check(sheet, channels, cells)))
 }
 
 // Checks cells against a job: 0 for no, 100 for yes, or the refusal's number.
@@ -145,6 +112,6 @@ pub fn check_bytes(sheet: &[u8], channels: &[u8], bytes: &[u8]) -> u64
     ensures { result ≡ checked_in (job_with sheet.now channels.now) bytes.now }
 {
     let mut cells = [0u32; 128];
-    let m = lent(bytes.len(), 128);
+    let m = lent::<u32>(bytes.len(), 128);
     check_into(sheet, channels, bytes, &mut cells[..m])
 }

@@ -1,14 +1,8 @@
 -- The cells of a plan, filled link by link: the link of a chosen vertex, and the cells past the links.
-use mathlib.Core.Path.{◌≡◌, sym, ap, ◌∙◌}
-use mathlib.Core.Bool.{Bool, false, ◌&&◌}
-use mathlib.Core.List.{List, ◌++◌}
-use Prim.Native.Nat.{ℕ, ◌+◌, ◌-◌, ◌≤◌, ◌<◌}
-use lib.ListN.{length, get_or, drop, replicate, length-append, length-drop, length-replicate, get_or-replicate}
+use Rattle.std.proofs.Common.{◌≡◌, sym, ap, ◌∙◌, Bool, false, ◌&&◌, List, ◌++◌, ℕ, ◌+◌, ◌-◌, ◌≤◌, ◌<◌, length, get_or, drop, replicate, length-append, length-drop, ext_get_or, get_or-drop, get_or-append-add, arith, eqb, leb, ltb, ltb-true, ltb-false, lt-ltb, le-ltb, le-leb, eq-eqb, eqb-true}
+use lib.ListN.{length-replicate, get_or-replicate}
 use lib.ListN.{get_or-append}
-use lib.Seq.{ext_get_or, get_or-drop, get_or-append-add}
-use native.Mathlib.Omega.{arith}
-use lib.Dec.{eqb, leb, ltb}
-use borrow.Author.Tests.{ltb-true, ltb-false, lt-ltb, le-ltb, le-leb, lt-leb, eq-eqb, eqb-true}
+use borrow.Author.Tests.{lt-leb}
 use Rattle.sets.proofs.Tests.{iff, bool}
 use Rattle.sheet_rows.specs.Rows.{link_first, link_count, freq}
 use Rattle.sheet.specs.Sheet.{k_of, n_of, freq_part}

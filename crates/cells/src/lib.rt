@@ -2,7 +2,7 @@
 // The contract of `put_plan` cites `plan_cells` of specs/Cells.antt.
 #![tactic(auto)]
 
-ghost use Rattle.std.specs.Prelude.{◌≡◌, ◌≤◌, ◌<◌, eqb, length};
+ghost use Rattle.std.specs.Prelude.{◌≡◌, ◌≤◌, ◌<◌, Some, eqb, length};
 ghost use Rattle.sets.specs.Below.{first};
 ghost use Rattle.sheet_rows.specs.Rows.{freq as freq_of};
 ghost use Rattle.sheet.specs.Sheet.{k_of, n_of, freq_part};
@@ -14,19 +14,6 @@ ghost use Rattle.cells.specs.Cells.{chosen_by, plan_cells, Chosen};
 
 use sheet::{freqs_at, links_of};
 use sheet_rows::{freq, link_count, link_first};
-
-fn wide(v: u32) -> usize
-    ensures { result ≡ v }
-{
-    v as usize
-}
-
-fn narrow(x: usize) -> u32
-    requires { x < 4294967296 }
-    ensures { result ≡ x }
-{
-    x as u32
-}
 
 // Whether vertex v is one of link l.
 fn in_link(sheet: &[u8], l: usize, v: usize) -> bool
@@ -41,21 +28,18 @@ fn in_link(sheet: &[u8], l: usize, v: usize) -> bool
 }
 
 // The class whose chosen vertex is one of link l.
-fn class_in_link(sheet: &[u8], chosen: &[u32], l: usize) -> usize
+fn class_in_link(sheet: &[u8], chosen: &[u32], l: usize) -> Option<usize>
     requires { Chosen sheet.now chosen.now × (l < k_of sheet.now) }
-    ensures { result ≡ first (k_of sheet.now)
-        (λ j. eqb (link_of (job_of sheet.now) (chosen_by chosen.now j)) l) }
+    ensures { result ≡ Some (first (k_of sheet.now)
+        (λ j. eqb (link_of (job_of sheet.now) (chosen_by chosen.now j)) l)) }
 {
     let k = links_of(sheet);
-    let mut c = 0;
-    while c < k {
-        let v = wide(chosen[c]);
-        if in_link(sheet, l, v) {
-            return c;
+    for (c, v) in chosen[..k].iter().enumerate() {
+        if in_link(sheet, l, *v as usize) {
+            return Some(c);
         }
-        c += 1;
     }
-    k
+    None
 }
 
 // The frequency of vertex v.
@@ -64,7 +48,7 @@ fn khz(sheet: &[u8], v: usize) -> u32
     ensures { result ≡ freq_of (freq_part sheet.now) v }
 {
     let at = freqs_at(sheet);
-    narrow(freq(&sheet[at..], v))
+    freq(&sheet[at..], v) as u32
 }
 
 // Fills the first k cells, which are zero, by the vertex chosen for each class.
@@ -75,10 +59,9 @@ pub fn put_plan(sheet: &[u8], chosen: &[u32], cells: &mut [u32])
         ≡ plan_cells (job_of sheet.now) (chosen_by chosen.now) (length cells.old) }
 {
     let k = links_of(sheet);
-    let mut l = 0;
-    while l < k {
-        let c = class_in_link(sheet, chosen, l);
-        cells[l] = khz(sheet, wide(chosen[c]));
-        l += 1;
+    for l in 0..k {
+        if let Some(c) = class_in_link(sheet, chosen, l) {
+            cells[l] = khz(sheet, chosen[c] as usize);
+        }
     }
 }

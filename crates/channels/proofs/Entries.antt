@@ -1,12 +1,5 @@
 -- A table is the chart where all of its entries together pass one test, which computes.
-use mathlib.Core.Path.{◌≡◌, ◌∙◌, ap}
-use mathlib.Core.Bool.{Bool, true}
-use mathlib.Core.List.{List}
-use Prim.Native.Nat.{ℕ, ◌+◌, ◌-◌}
-use native.Mathlib.Omega.{arith}
-use lib.Dec.{eqb}
-use lib.ListN.{get_or}
-use borrow.Author.Tests.{eqb-true}
+use Rattle.std.proofs.Common.{◌≡◌, ◌∙◌, ap, Bool, true, List, ℕ, ◌+◌, ◌-◌, arith, eqb, get_or, eqb-true}
 use Rattle.sets.specs.Below.{all}
 use Rattle.sets.proofs.Below.{all_out}
 use Rattle.channels.specs.Channels.{lower_edge}

@@ -1,11 +1,5 @@
 -- Lists of channels: each entry is one, and what is on air is what a channel covers.
-use mathlib.Core.Path.{◌≡◌, sym, refl}
-use mathlib.Core.Bool.{true, ◌||◌}
-use mathlib.Core.List.{List, [], ◌∷◌}
-use Prim.Native.Nat.{ℕ, ◌-◌, ◌≤◌, ◌<◌}
-use lib.Dec.{ltb, leb, eqb}
-use lib.ListN.{length, get_or}
-use borrow.Author.Tests.{leb-true}
+use Rattle.std.proofs.Common.{◌≡◌, sym, refl, true, ◌||◌, List, [], ◌∷◌, ℕ, ◌-◌, ◌≤◌, ◌<◌, ltb, leb, eqb, length, get_or, leb-true}
 use Rattle.sets.proofs.Tests.{and_l, and_r}
 use Rattle.sets.proofs.Below.{all_out, any_none}
 use Rattle.channels.specs.Channels.{channel_ok, channels_ok, covered_by, on_air}

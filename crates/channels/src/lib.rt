@@ -26,26 +26,24 @@ fn is_channel(channels: &[u8], i: usize) -> bool
 pub fn is_channel_list(channels: &[u8]) -> bool
     ensures { result ≡ channels_ok channels.now }
 {
-    let mut i = 0;
-    while i < channels.len() {
+    for i in 0..channels.len() {
         if !is_channel(channels, i) {
             return false;
         }
-        i += 1;
     }
     true
 }
 
 // The lower edge of channel c in kHz.
-fn lower_edge(c: usize) -> usize
+fn lower_edge(c: u8) -> usize
     requires { (21 ≤ c) × (c ≤ 48) }
     ensures { result ≡ lower_edge c }
 {
-    lower_edges()[c - 21] as usize
+    lower_edges()[usize::from(c - 21)] as usize
 }
 
 // Whether channel c covers the frequency x.
-fn covers(c: usize, x: usize) -> bool
+fn covers(c: u8, x: usize) -> bool
     requires { (21 ≤ c) × (c ≤ 48) }
     ensures { result ≡ covers_of c x }
 {
@@ -58,12 +56,10 @@ pub fn is_on_air(channels: &[u8], x: usize) -> bool
     requires { channels_ok channels.now ≡ true }
     ensures { result ≡ on_air channels.now x }
 {
-    let mut i = 0;
-    while i < channels.len() {
-        if covers(channels[i] as usize, x) {
+    for c in channels {
+        if covers(*c, x) {
             return true;
         }
-        i += 1;
     }
     false
 }

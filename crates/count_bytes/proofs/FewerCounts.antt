@@ -4,7 +4,7 @@ use mathlib.Core.Path.{◌≡◌, refl, sym, ap, ◌∙◌}
 use mathlib.Core.Bool.{Bool, true, false, cond}
 use mathlib.Core.List.{List}
 use Prim.Native.Nat.{ℕ, ◌≤◌, min}
-use lib.Dec.{eqb, ltb, leb}
+use lib.Dec.{eqb, leb}
 use lib.ListN.{get_or}
 use borrow.Author.Tests.{eqb-true, eqb-false, le-ltb}
 use Rattle.sets.specs.Below.{tabulate}
@@ -16,7 +16,7 @@ use Rattle.search.specs.Limit.{Answer, plan, none, stopped, answer}
 use Rattle.zeros.proofs.Zeros.{zeros_at}
 use Rattle.setting.specs.Setting.{Setting, counting}
 use Rattle.sheet_rows.specs.Form.{most_links, most_freqs, most_words}
-use Rattle.planner.specs.Outcome.{call_refusal, outcome_of, outcome}
+use Rattle.planner.specs.Outcome.{call_refusal, outcome_of}
 use Rattle.planner.proofs.Accepted.{call_accepted}
 use Rattle.planner.proofs.Outcomes.{outcome_accepted}
 use Rattle.number_bytes.proofs.NumberBytes.{same_bytes}

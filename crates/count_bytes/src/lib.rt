@@ -1,7 +1,7 @@
 // The counting call with numbers and byte slices. The contracts cite specs/CountBytes.antt, for every input.
 #![tactic(auto)]
 
-ghost use Rattle.std.specs.Prelude.{◌≡◌, ◌/◌, ◌≤◌, min, length};
+ghost use Rattle.std.specs.Prelude.{length};
 ghost use Rattle.sheet_rows.specs.Form.{most_words};
 ghost use Rattle.rules.specs.Job.{job_with};
 ghost use Rattle.setting.specs.Setting.{setting_of};
@@ -10,16 +10,8 @@ ghost use Rattle.count_bytes.specs.CountBytes.{CountsHanded, counting_in};
 
 use byte_calls::{lent, number};
 use counting::count;
-use number_bytes::{put_eights, put_fours};
+use number_bytes::put_numbers;
 use setting::Options;
-
-// The counts that the library is lent: no sheet has more than 1,024 frequencies.
-fn counts_lent(bytes: usize) -> usize
-    ensures { (result ≡ min (bytes / 8) 1024) × (result ≤ 1024) }
-{
-    let u = bytes / 8;
-    if u < 1024 { u } else { 1024 }
-}
 
 // Counts in the cells and counts lent, and writes the cells of the plan and the tally of counts as bytes. The work
 // words are the call's own.
@@ -40,8 +32,8 @@ fn count_into(
 {
     let mut work = [0u64; 32768];
     let p = count(sheet, channels, options, classes, cells, counts, &mut work);
-    put_fours(cells, plan);
-    put_eights(counts, tally);
+    put_numbers(cells, plan);
+    put_numbers(counts, tally);
     number(p)
 }
 
@@ -61,8 +53,8 @@ pub fn count_job_bytes(
 {
     let mut cells = [0u32; 128];
     let mut counts = [0u64; 1024];
-    let m = lent(plan.len(), 128);
-    let u = counts_lent(tally.len());
+    let m = lent::<u32>(plan.len(), 128);
+    let u = lent::<u64>(tally.len(), 1024);
     count_into(
         sheet,
         channels,

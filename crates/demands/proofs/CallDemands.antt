@@ -1,17 +1,13 @@
 -- The demands of the calls follow from those of the definitions, which the contracts equate with what is returned and
 -- left.
-use mathlib.Core.Path.{◌≡◌, refl, sym, ap, subst, ◌∙◌}
-use mathlib.Core.List.{List}
-use Prim.Native.Nat.{ℕ, ◌≤◌}
-use native.Mathlib.Omega.{arith}
-use lib.ListN.{length}
+use Rattle.std.proofs.Common.{◌≡◌, Bool, true, false, List, length, ℕ, ◌≤◌, Result, Ok, Err, refl, sym, ap, subst, ◌∙◌, arith}
 use borrow.Author.Tests.{le-leb}
 use Rattle.sheet.specs.Sheet.{k_of}
 use Rattle.sheet.proofs.Causes.{cause_most, cause_some}
 use Rattle.rules.specs.Job.{Job}
 use Rattle.rules.specs.Plans.{cells_of, keeps_job, checked, check_number}
-use Rattle.rules.specs.declared.CheckAnswer.{CheckAnswer}
-use Rattle.rules.specs.declared.CheckAnswer.TheVariants.{No, Yes, Few, BadChannels, Refused}
+use Rattle.rules.specs.declared.CheckRefusal.{CheckRefusal}
+use Rattle.rules.specs.declared.CheckRefusal.TheVariants.{Sheet, FewCells, Channels}
 use Rattle.sets.proofs.Tests.{is_false}
 use Rattle.graph.specs.Matches.{KeepsEveryRule, MayCheck}
 use Rattle.graph.proofs.Matches.{demand2}
@@ -35,19 +31,19 @@ call_demand1 = record {
 }
 
 -- no other answer has the number of yes, and none that of no
-is_yes : (a : CheckAnswer) → check_number a ≡ 100 → a ≡ Yes
-is_yes Yes e = refl
-is_yes No e = absurd (omega arith)
-is_yes Few e = absurd (omega arith)
-is_yes BadChannels e = absurd (omega arith)
-is_yes (Refused x) e = absurd (omega (arith, cause_most x))
+is_yes : (a : Result Bool CheckRefusal) → check_number a ≡ 100 → a ≡ Ok true
+is_yes (Ok true) e = refl
+is_yes (Ok false) e = absurd (omega arith)
+is_yes (Err FewCells) e = absurd (omega arith)
+is_yes (Err Channels) e = absurd (omega arith)
+is_yes (Err (Sheet x)) e = absurd (omega (arith, cause_most x))
 
-is_no : (a : CheckAnswer) → check_number a ≡ 0 → a ≡ No
-is_no No e = refl
-is_no Yes e = absurd (omega arith)
-is_no Few e = absurd (omega arith)
-is_no BadChannels e = absurd (omega arith)
-is_no (Refused x) e = absurd (omega (arith, cause_some x))
+is_no : (a : Result Bool CheckRefusal) → check_number a ≡ 0 → a ≡ Ok false
+is_no (Ok true) e = absurd (omega arith)
+is_no (Ok false) e = refl
+is_no (Err FewCells) e = absurd (omega arith)
+is_no (Err Channels) e = absurd (omega arith)
+is_no (Err (Sheet x)) e = absurd (omega (arith, cause_some x))
 
 -- cells that are not refused and break a rule
 checked_no : (job : Job) (cells : List ℕ) → MayCheck job cells → (KeepsEveryRule job (cells_of cells) → ⊥)

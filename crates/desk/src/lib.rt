@@ -6,7 +6,7 @@
 ghost use Rattle.std.specs.Prelude.{◌≡◌, ◌+◌, ◌*◌, ◌^◌, ◌≤◌, length};
 ghost use Rattle.dimacs.specs.Export.{exported};
 ghost use Rattle.dimacs.specs.Import.{imported};
-ghost use Rattle.graph_export.specs.Gives.{export_number, most_graph, most_counts};
+ghost use Rattle.graph_export.specs.Gives.{export_number, lengths_of, most_graph, most_counts};
 ghost use Rattle.graph_import.specs.Gives.{most_sheet};
 ghost use Rattle.heaviest_sheet.specs.Call.{heaviest_of};
 ghost use Rattle.rules.specs.Job.{job_with};
@@ -18,20 +18,23 @@ ghost use Rattle.desk.specs.Desk.{ExportHanded, sheet_word, ImportHanded, Heavie
 
 use byte_calls::{check_bytes, plan_bytes};
 use count_bytes::count_job_bytes;
-use graph_export::{Exported, export, export_number};
+use graph_export::{ExportRefusal, Lengths, export, export_number};
 use graph_import::{import, import_number};
 use heaviest::{heaviest, heaviest_number};
 use setting::Options;
 use spares_bytes::spares_bytes;
 
 // The number of an export: both lengths and the cause.
-fn exported_number(e: Exported) -> u64
-    requires { (e.graph ≤ most_graph) × (e.counts ≤ most_counts) }
-    ensures { result ≡ e.graph + 2 ^ 32 * e.counts + 2 ^ 48 * export_number e.answer }
+fn exported_number(answer: Result<Lengths, ExportRefusal>) -> u64
+    requires { ((lengths_of answer).graph ≤ most_graph) × ((lengths_of answer).counts ≤ most_counts) }
+    ensures { result ≡ (lengths_of answer).graph + 2 ^ 32 * (lengths_of answer).counts + 2 ^ 48 * export_number answer }
 {
-    let answer = e.answer;
-    let cause = export_number(answer) as u64;
-    e.graph as u64 + 4294967296 * (e.counts as u64) + 281474976710656 * cause
+    let cause = u64::from(export_number(answer));
+    let lengths = answer.unwrap_or(Lengths {
+        graph: 0,
+        counts: 0,
+    });
+    lengths.graph as u64 + 4294967296 * (lengths.counts as u64) + 281474976710656 * cause
 }
 
 // Writes the two texts of a sheet.
@@ -48,7 +51,7 @@ fn sheet_number(length: usize, cause: u32) -> u64
     requires { length ≤ most_sheet }
     ensures { result ≡ sheet_word length cause }
 {
-    length as u64 + 4294967296 * (cause as u64)
+    length as u64 + 4294967296 * u64::from(cause)
 }
 
 // Writes the sheet of a graph text and a count text.
@@ -57,9 +60,8 @@ pub extern "C" fn guvtemi_import(graph: &[u8], counts: &[u8], sheet: &mut [u8]) 
     ensures { ImportHanded (imported graph.now counts.now (length sheet.old))
         result sheet.new }
 {
-    let i = import(graph, counts, sheet);
-    let answer = i.answer;
-    sheet_number(i.length, import_number(answer))
+    let answer = import(graph, counts, sheet);
+    sheet_number(answer.unwrap_or(0), import_number(answer))
 }
 
 // Plans a job: a sheet and the channels on air. The work words are the call's own.
@@ -138,7 +140,6 @@ pub extern "C" fn guvtemi_spares(
 pub extern "C" fn guvtemi_heaviest(k: u32, m: u32, buffer: &mut [u8]) -> u64
     ensures { HeaviestHanded (heaviest_of k m (length buffer.old)) result buffer.new }
 {
-    let h = heaviest(k, m, buffer);
-    let answer = h.answer;
-    sheet_number(h.length, heaviest_number(answer))
+    let answer = heaviest(k, m, buffer);
+    sheet_number(answer.unwrap_or(0), heaviest_number(answer))
 }

@@ -1,11 +1,6 @@
 -- Failed vertices: what is left is the greatest unit-closed set with no failed vertex, or a class is empty.
-use mathlib.Core.Path.{◌≡◌, refl, sym, ap, subst, ◌∙◌}
-use mathlib.Core.Bool.{true, false, not, ◌&&◌}
-use mathlib.Core.Logic.{◌⊎◌, inl, inr}
-use Prim.Native.Nat.{ℕ, zero, suc, ◌≤◌, ◌<◌}
-use native.Mathlib.Omega.{arith}
-use lib.Dec.{eqb, ltb}
-use borrow.Author.Tests.{not-false, eqb-true, eq-eqb, ltb-true, ltb-false}
+use Rattle.std.proofs.Common.{◌≡◌, refl, sym, ap, subst, ◌∙◌, true, false, not, ◌&&◌, ◌⊎◌, inl, inr, ℕ, zero, suc, ◌≤◌, ◌<◌, arith, eqb, ltb, eqb-true, eq-eqb, ltb-true, ltb-false}
+use borrow.Author.Tests.{not-false}
 use Rattle.sets.specs.Below.{count}
 use Rattle.sets.specs.Sets.{Set, ◌⊆◌, ◌∖◌, just}
 use Rattle.sets.proofs.Tests.{clash, and_l, and_r, and_in, or_l, or_r, not_out, not_in, bool, is_false, case, below}

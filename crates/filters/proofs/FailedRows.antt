@@ -1,11 +1,6 @@
 -- Rounds of trials in words.
-use mathlib.Core.Path.{◌≡◌, sym, ap, subst, ◌∙◌}
-use mathlib.Core.Bool.{Bool, true, false}
-use mathlib.Core.List.{List}
-use Prim.Native.Nat.{ℕ, ◌+◌, ◌*◌, ◌≤◌, ◌<◌}
-use native.Mathlib.Omega.{arith}
+use Rattle.std.proofs.Common.{◌≡◌, sym, ap, subst, ◌∙◌, Bool, true, false, List, ℕ, arith}
 use borrow.Author.Tests.{not-false}
-use Rattle.sets.specs.Below.{one, count}
 use Rattle.sets.specs.Sets.{Set}
 use Rattle.rows.specs.Rows.{Outside}
 use Rattle.rows.proofs.Rows.{outside_wide}
@@ -15,12 +10,11 @@ use Rattle.cliques.proofs.Graph.{pair_two}
 use Rattle.cliques.specs.declared.Place.{Place}
 use Rattle.filters.specs.Failed.{refuted, failed}
 use Rattle.filters.specs.Filtered.{Filtered}
-use Rattle.filters.specs.Step.{OnTheWay, Stepped, AllStand}
+use Rattle.filters.specs.Step.{OnTheWay, AllStand}
 use Rattle.filters.specs.Unit.{unit}
-use Rattle.filters.specs.declared.Step.TheVariants.{Open}
 use Rattle.filters.proofs.Failed.{Firm, Closed, failed_greatest}
 use Rattle.filters.proofs.Promise.{way_in, way_shut, shut_start}
-use Rattle.filters.proofs.Repeats.{Repeating, turn_less, repeat_node, repeat_shut, repeat_on}
+use Rattle.filters.proofs.Repeats.{Repeating, repeat_node, repeat_shut, repeat_on}
 use Rattle.filters.proofs.Unit.{UnitClosed, unit_greatest}
 
 -- unit steps are strikes of the filter
@@ -33,11 +27,8 @@ unfolding refuted
 stands_firm G d L h c a b l r p = not-false _ (h c l r (pair_two G c a b L p) a p.at_a)
 
 -- `failed`: the unit steps before a round
-module _ {d : ℕ} {place : Place} {p₀ p p₁ : List ℕ} {go r : Bool} {len : ℕ} (R : Room (four_rows place) place len)
-    (T : Repeating failed Closed (four_rows place) d place p₀ p go)
-    (u : Filtered unit (two_rows place) d place p p₁ r) where
-  open place use {w}
-
+module _ {d : ℕ} {place : Place} {p₀ p p₁ : List ℕ} {r : Bool} {len : ℕ} (R : Room (four_rows place) place len)
+    (T : Repeating failed (four_rows place) d place p₀ p) (u : Filtered unit (two_rows place) d place p p₁ r) where
   out₁ : Outside 0 (four_rows place) p p₁
   out₁ = outside_wide 0 (four_rows place) (omega arith) (omega arith) u.rest
 
@@ -49,7 +40,7 @@ module _ {d : ℕ} {place : Place} {p₀ p p₁ : List ℕ} {go r : Bool} {len :
 
   -- or they do not, and the round comes
   module _ (e : r ≡ true) where
-    pub rested : Repeating failed Closed (four_rows place) d place p₀ p₁ true
+    pub rested : Repeating failed (four_rows place) d place p₀ p₁
     rested = repeat_on failed Closed failed_greatest R T out₁
         (λ G N. rw (u.says G N e) (unit_way G d (own_row place p)))
 
@@ -66,9 +57,3 @@ module _ {d : ℕ} {place : Place} {p₀ p p₁ : List ℕ} {go r : Bool} {len :
             stands_firm G d (own_row place p₁) h,
           ),
         )
-
-    pub rested_less : {Q : Graph → Set → Type 0} {q : List ℕ} (x : Bool)
-        → (r ≡ true → count (64 * w) (own_row place p₁) ≤ count (64 * w) (own_row place p))
-        → Stepped failed Q (four_rows place) d place p₁ q (Open x)
-        → count (64 * w) (own_row place q) + one x < count (64 * w) (own_row place p) + 1
-    rested_less x h S = omega (arith, turn_less x S, h e)

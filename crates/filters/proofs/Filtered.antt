@@ -1,9 +1,5 @@
 -- A part that was filtered, from what was done to its rows.
-use mathlib.Core.Path.{◌≡◌, sym, ap, ◌∙◌}
-use mathlib.Core.Bool.{Bool}
-use mathlib.Core.List.{List}
-use Prim.Native.Nat.{ℕ, ◌≤◌}
-use native.Mathlib.Omega.{arith}
+use Rattle.std.proofs.Common.{◌≡◌, sym, ap, ◌∙◌, Bool, List, ℕ, ◌≤◌, arith}
 use Rattle.sets.specs.Sets.{Set, ◌⊆◌}
 use Rattle.rows.specs.Rows.{Outside}
 use Rattle.rows.proofs.Rows.{below, outside_then, outside_wide}

@@ -1,12 +1,6 @@
 -- The pre-filter keeps its promise. It strikes no vertex of a k-clique: by the pigeonhole a k-clique has a vertex in
 -- each of the k layers.
-use mathlib.Core.Path.{◌≡◌, refl, sym, subst}
-use mathlib.Core.Bool.{true, ◌||◌}
-use mathlib.Core.Logic.{◌⊎◌, inl, inr}
-use Prim.Native.Nat.{ℕ, zero, suc, ◌≤◌}
-use native.Mathlib.Omega.{arith}
-use lib.Dec.{eqb}
-use borrow.Author.Tests.{eq-eqb}
+use Rattle.std.proofs.Common.{◌≡◌, refl, sym, subst, true, ◌||◌, ◌⊎◌, inl, inr, ℕ, zero, suc, ◌≤◌, arith, eqb, eq-eqb}
 use Rattle.sets.specs.Sets.{Set, ◌⊆◌}
 use Rattle.sets.proofs.Tests.{clash, bool, and_in, or_l, or_r, or_case}
 use Rattle.sets.proofs.Below.{any_in}

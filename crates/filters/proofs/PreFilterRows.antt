@@ -1,11 +1,6 @@
 -- The loop of `pre_filter`: the layers below e have struck.
-use mathlib.Core.Path.{◌≡◌, refl, sym, ap, ap₂, ◌∙◌, fun_ext}
-use mathlib.Core.Bool.{Bool, true, false, ◌&&◌, ◌||◌}
-use mathlib.Core.List.{List}
-use Prim.Native.Nat.{ℕ, ◌+◌, ◌*◌, ◌≤◌, ◌<◌}
-use native.Mathlib.Numerals.{add-one}
-use native.Mathlib.Omega.{arith}
-use lib.Dec.{eqb}
+use Rattle.std.proofs.Common.{◌≡◌, refl, sym, ap, ap₂, ◌∙◌, Bool, true, false, ◌&&◌, ◌||◌, List, ℕ, ◌+◌, ◌*◌, ◌<◌, add-one, arith, eqb}
+use mathlib.Core.Path.{fun_ext}
 use Rattle.sets.specs.Sets.{Set, ◌∩◌, ◌∪◌}
 use Rattle.sets.proofs.Tests.{bool}
 use Rattle.rows.specs.Rows.{set_at, row_at, Outside, Put}
@@ -23,7 +18,6 @@ use Rattle.filters.proofs.ReachRows.{beside_same}
 use Rattle.filters.proofs.SweepRows.{near_beside}
 
 pub record Layering (place : Place) (p₀ p : List ℕ) (e : ℕ) : Type 0 where
-  pub upto : e ≤ place.k
   pub rest : Outside 0 (three_rows place) p₀ p
   pub so : (G : Graph) → Node G 0 place p₀ → own_row place p ≡ pre_to G G.cls e (own_row place p₀)
 
@@ -57,7 +51,7 @@ module _ {place : Place} {p₀ : List ℕ} where
 
   pub layering_none : Layering place p₀ p₀ 0
   unfolding pre_to
-  layering_none = record { upto = omega arith; rest = outside_none _ _ p₀; so = λ G N. refl }
+  layering_none = record { rest = outside_none _ _ p₀; so = λ G N. refl }
 
   pub layering_more : {p p₁ q : List ℕ} {e m len : ℕ} → Room (w + w + w) place len → Layering place p₀ p e → e < k
       → m ≡ masks + e * w → Put (set_at p w m) w (w + w) p p₁ → StruckBy w m graph n p₁ q → Layering place p₀ q (e + 1)
@@ -68,17 +62,16 @@ module _ {place : Place} {p₀ : List ℕ} where
       let row : set_at p w m ≡ row_at p₀ w masks e = ap (set_at p w) g ∙ above F.rest w (masks + e * w) (omega arith) in
       let row₁ : set_at p₁ w m ≡ row_at p₀ w masks e = ap (set_at p₁ w) g ∙ above r₁ w (masks + e * w) (omega arith) in
       record {
-        upto = omega arith;
         rest = outside_then r₁ y.rest;
         so = λ G N. pre_more N l (F.so G N)
             (y.own ∙ ap₂ (λ (X Y : Set). X ∩ Y) own (ap₂ (λ (X Y : Set). X ∪ Y) (x.here ∙ row)
             (ap₂ (λ (X Y : Set). beside p₁ w (X ∩ Y) graph n) own row₁ ∙ beside_same w _ graph n r₁ R.graph_after)));
       }
 
-  pub layering_all : {p : List ℕ} {e len : ℕ} {r : Bool} → Room (w + w + w) place len → Layering place p₀ p e → k ≤ e
+  pub layering_all : {p : List ℕ} {e len : ℕ} {r : Bool} → Room (w + w + w) place len → Layering place p₀ p e → e ≡ k
       → ((G : Graph) → Node G 0 place p → r ≡ is_open G 0 (own_row place p))
       → Filtered (λ G d L. pre_filter G G.cls L) (w + w + w) 0 place p₀ p r
   unfolding pre_filter
   layering_all {p} {e} R F l z = filtered (λ G L. layers_strike G G.cls G.k L) R F.rest
-      (λ G N. let q : e ≡ G.k = omega (arith, N.held.classes, F.upto) in F.so G N
-      ∙ ap (λ (j : ℕ). pre_to G G.cls j (own_row place p₀)) q) z
+      (λ G N. F.so G N
+      ∙ ap (λ (j : ℕ). pre_to G G.cls j (own_row place p₀)) (l ∙ sym N.held.classes)) z

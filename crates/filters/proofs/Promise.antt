@@ -1,8 +1,7 @@
 -- Cliques as sets, and filters that leave the greatest set with a property: such a filter keeps its promise, and two of
 -- them agree, whatever the order of their strikes.
-use mathlib.Core.Path.{◌≡◌, sym, ap, subst, ◌∙◌, fun_ext}
-use mathlib.Core.Bool.{true, false}
-use Prim.Native.Nat.{ℕ}
+use Rattle.std.proofs.Common.{◌≡◌, sym, ap, subst, ◌∙◌, true, false, ℕ}
+use mathlib.Core.Path.{fun_ext}
 use Rattle.sets.specs.Sets.{Set, ◌⊆◌}
 use Rattle.sets.proofs.Tests.{clash, is_false, iff}
 use Rattle.cliques.specs.Graph.{Graph, At, is_open, Clique, clique_set}

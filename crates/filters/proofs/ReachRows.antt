@@ -1,11 +1,6 @@
 -- The neighbours of a set's members, member by member, and what a class strikes in the own row, call by call.
-use mathlib.Core.Path.{◌≡◌, refl, sym, ap, ap₂, ◌∙◌, fun_ext}
-use mathlib.Core.Bool.{Bool, true, false, ◌&&◌, ◌||◌}
-use mathlib.Core.List.{List}
-use Prim.Native.Nat.{ℕ, zero, suc, ◌+◌, ◌-◌, ◌*◌, ◌≤◌, ◌<◌}
-use native.Mathlib.Nat.{add-zero, add-suc}
-use native.Mathlib.Numerals.{add-one}
-use native.Mathlib.Omega.{arith}
+use Rattle.std.proofs.Common.{◌≡◌, refl, sym, ap, ap₂, ◌∙◌, Bool, true, false, ◌&&◌, ◌||◌, List, ℕ, zero, suc, ◌+◌, ◌-◌, ◌*◌, ◌≤◌, ◌<◌, add-zero, add-suc, add-one, arith}
+use mathlib.Core.Path.{fun_ext}
 use Rattle.sets.specs.Below.{any}
 use Rattle.sets.specs.Sets.{Set, ◌∩◌, ◌∪◌}
 use Rattle.sets.proofs.Below.{any_same}

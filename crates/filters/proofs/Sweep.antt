@@ -1,11 +1,5 @@
 -- The colour sweep keeps its promise.
-use mathlib.Core.Path.{◌≡◌}
-use mathlib.Core.Bool.{true, not, ◌&&◌, ◌||◌}
-use mathlib.Core.Logic.{◌⊎◌, inl, inr}
-use Prim.Native.Nat.{ℕ, zero, suc, ◌≤◌, ◌<◌}
-use native.Mathlib.Omega.{arith}
-use lib.Dec.{eqb, ltb}
-use borrow.Author.Tests.{eqb-true, eq-eqb, ltb-false}
+use Rattle.std.proofs.Common.{◌≡◌, true, not, ◌&&◌, ◌||◌, ◌⊎◌, inl, inr, ℕ, zero, suc, ◌≤◌, ◌<◌, arith, eqb, ltb, eqb-true, eq-eqb, ltb-false}
 use Rattle.sets.specs.Below.{all, any}
 use Rattle.sets.specs.Sets.{Set, ◌⊆◌}
 use Rattle.sets.proofs.Tests.{and_l, and_r, and_in, or_l, or_r, or_case, not_in, bool}

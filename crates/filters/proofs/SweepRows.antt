@@ -1,15 +1,8 @@
 -- The colour sweep as the code has it: class by class, each strikes in all later classes whoever has no live neighbour
 -- in it. `push` is what is left after the classes below e have struck, said with the whole sweep S: when a class
 -- strikes, it is already as S leaves it.
-use mathlib.Core.Path.{◌≡◌, refl, sym, ap, ap₂, ◌∙◌, fun_ext}
-use mathlib.Core.Bool.{Bool, true, false, ◌&&◌, ◌||◌}
-use mathlib.Core.List.{List}
-use mathlib.Core.Logic.{◌⊎◌, inl, inr}
-use Prim.Native.Nat.{ℕ, zero, suc, ◌+◌, ◌-◌, ◌*◌, ◌≤◌, ◌<◌}
-use native.Mathlib.Omega.{arith}
-use native.Mathlib.Numerals.{add-one}
-use lib.Dec.{eqb, ltb, leb}
-use borrow.Author.Tests.{eqb-true, eq-eqb, ne_eqb, ltb-true, lt-ltb, leb-true, le-leb, leb-false}
+use Rattle.std.proofs.Common.{◌≡◌, refl, sym, ap, ap₂, ◌∙◌, Bool, true, false, ◌&&◌, ◌||◌, List, ◌⊎◌, inl, inr, ℕ, zero, suc, ◌+◌, ◌-◌, ◌*◌, ◌≤◌, ◌<◌, arith, add-one, eqb, ltb, leb, eqb-true, eq-eqb, ne_eqb, ltb-true, lt-ltb, leb-true, le-leb, leb-false}
+use mathlib.Core.Path.{fun_ext}
 use Rattle.sets.specs.Below.{all, any}
 use Rattle.sets.specs.Sets.{Set, ◌∩◌, ◌∪◌, nothing}
 use Rattle.sets.proofs.Tests.{clash, bool, iff, is_false, or_l, or_r, or_case}
@@ -232,18 +225,15 @@ module _ {G : Graph} {d : ℕ} {place : Place} {p : List ℕ} (N : Node G d plac
           ≡ push G d S L (suc e) u
       out u h = rw (ap (λ (X : Set). X u) W.live ∙ push_out G d e S L u h) (sym (push_out G d (suc e) S L u h))
 
-  pub swept_all : {own kept : Set} {e : ℕ} → k ≤ e → e ≤ k → Swept G d (own_row place p) own kept e
+  pub swept_all : {own kept : Set} {e : ℕ} → e ≡ k → Swept G d (own_row place p) own kept e
       → own ≡ sweep G d (own_row place p)
-  swept_all {own} {kept} {e} a b W =
-      let q : e ≡ G.k = omega (arith, N.held.classes) in
-      W.live ∙ ap (push G d (sweep G d (own_row place p)) (own_row place p)) q
+  swept_all q W =
+      W.live ∙ ap (push G d (sweep G d (own_row place p)) (own_row place p)) (q ∙ sym N.held.classes)
       ∙ push_all G d (own_row place p) (λ u h. (N.live u h).2)
 
 -- the loop of `sweep`
 
 pub record Sweeping (d : ℕ) (place : Place) (p₀ p : List ℕ) (e : ℕ) : Type 0 where
-  pub from : d ≤ e
-  pub upto : e ≤ place.k
   pub rest : Outside 0 (four_rows place) p₀ p
   pub so : (G : Graph) → Node G d place p₀
       → Swept G d (own_row place p₀) (own_row place p) (set_at p place.w (three_rows place)) e
@@ -251,31 +241,27 @@ pub record Sweeping (d : ℕ) (place : Place) (p₀ p : List ℕ) (e : ℕ) : Ty
 module _ {d : ℕ} {place : Place} {p₀ : List ℕ} where
   open place use {w, masks, graph, n, k}
 
-  pub sweeping_none : d ≤ k → set_at p₀ w (w + w + w) ≡ nothing → Sweeping d place p₀ p₀ d
-  sweeping_none l x = record {
-    from = omega arith;
-    upto = l;
+  pub sweeping_none : set_at p₀ w (w + w + w) ≡ nothing → Sweeping d place p₀ p₀ d
+  sweeping_none x = record {
     rest = outside_none _ _ p₀;
     so = λ G N. swept_none G d (own_row place p₀) (set_at p₀ w (w + w + w)) N.live x;
   }
 
-  pub sweeping_more : {p q : List ℕ} {e m len : ℕ} → Room (w + w + w + w) place len → Sweeping d place p₀ p e → e < k
-      → m ≡ masks + e * w → SweptBy w m graph n p q → Sweeping d place p₀ q (e + 1)
-  sweeping_more {p} {q} {e} {m} R F l g x =
+  pub sweeping_more : {p q : List ℕ} {e m len : ℕ} → Room (w + w + w + w) place len → Sweeping d place p₀ p e → d ≤ e
+      → e < k → m ≡ masks + e * w → SweptBy w m graph n p q → Sweeping d place p₀ q (e + 1)
+  sweeping_more {p} {q} {e} {m} R F f l g x =
       let row : set_at p w m ≡ row_at p₀ w masks e = ap (set_at p w) g ∙ above F.rest w (masks + e * w) (omega arith) in
       record {
-        from = omega (arith, F.from);
-        upto = omega arith;
         rest = outside_then F.rest x.rest;
-        so = λ G N. swept_more N F.from l (F.so G N) (x.kept ∙ ap (λ (X : Set). set_at p w (w + w + w) ∪ X) row)
+        so = λ G N. swept_more N f l (F.so G N) (x.kept ∙ ap (λ (X : Set). set_at p w (w + w + w) ∪ X) row)
             (x.own ∙ ap (λ (X : Set). own_row place p ∩ (set_at q w (w + w + w) ∪ X))
             (ap (λ (X : Set). beside p w (own_row place p ∩ X) graph n) row
             ∙ beside_same w _ graph n F.rest R.graph_after));
       }
 
   pub sweeping_all : {p : List ℕ} {e len : ℕ} {r : Bool} → Room (w + w + w + w) place len → Sweeping d place p₀ p e
-      → k ≤ e
+      → e ≡ k
       → ((G : Graph) → Node G d place p → r ≡ is_open G d (own_row place p))
       → Filtered sweep (w + w + w + w) d place p₀ p r
   sweeping_all {p} {e} R F l z = filtered (λ G L. (sweep_promise G).strikes d L) R F.rest
-      (λ G N. swept_all N l F.upto (F.so G N)) z
+      (λ G N. swept_all N l (F.so G N)) z

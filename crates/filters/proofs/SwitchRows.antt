@@ -1,8 +1,5 @@
 -- The filters of a node as they are switched, one after another.
-use mathlib.Core.Path.{◌≡◌, refl, sym, ap, ◌∙◌}
-use mathlib.Core.Bool.{Bool, true, false}
-use mathlib.Core.List.{List}
-use Prim.Native.Nat.{ℕ}
+use Rattle.std.proofs.Common.{◌≡◌, refl, sym, ap, ◌∙◌, Bool, true, false, List, ℕ}
 use Rattle.sets.specs.Sets.{Set}
 use Rattle.sets.proofs.Tests.{clash, is_false}
 use Rattle.rows.proofs.Rows.{outside_none, outside_then}

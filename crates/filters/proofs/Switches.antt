@@ -1,7 +1,5 @@
 -- The filters of a node keep their promise under every filter number, and with filters added leave no more.
-use mathlib.Core.Path.{◌≡◌, refl}
-use mathlib.Core.Bool.{Bool, true, false}
-use Prim.Native.Nat.{ℕ}
+use Rattle.std.proofs.Common.{◌≡◌, refl, Bool, true, false, ℕ}
 use Rattle.sets.specs.Sets.{Set, ◌⊆◌}
 use Rattle.sets.proofs.Tests.{clash}
 use Rattle.cliques.specs.Graph.{Graph}

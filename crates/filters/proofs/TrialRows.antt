@@ -1,14 +1,8 @@
 -- Trials in words: on a copy of the own row, in the row behind it, and of the two live vertices of a class.
-use mathlib.Core.Path.{◌≡◌, refl, sym, ap, ap₂, subst, ◌∙◌, fun_ext}
-use mathlib.Core.Bool.{Bool, true, false, not, ◌&&◌, ◌||◌}
-use mathlib.Core.List.{List}
-use mathlib.Core.Logic.{◌⊎◌, inl, inr}
-use Prim.Native.Nat.{ℕ, ◌+◌, ◌-◌, ◌*◌, ◌≤◌, ◌<◌}
-use native.Mathlib.Omega.{arith}
+use Rattle.std.proofs.Common.{◌≡◌, refl, sym, ap, ap₂, subst, ◌∙◌, Bool, true, false, not, ◌&&◌, ◌||◌, Option, Some, None, List, length, ◌⊎◌, inl, inr, ℕ, ◌+◌, ◌-◌, ◌*◌, ◌≤◌, ◌<◌, eqb, arith, eqb-true, eq-eqb}
+use Rattle.std.specs.Bool.{then_some}
+use mathlib.Core.Path.{fun_ext}
 use native.Mathlib.Decide.{dec_lt}
-use lib.Dec.{eqb}
-use lib.ListN.{length}
-use borrow.Author.Tests.{eqb-true, eq-eqb}
 use borrow.Rule.Slice.PartMut.{mid_of, put_mid}
 use Rattle.sets.specs.Below.{count}
 use Rattle.sets.specs.Sets.{Set, ◌⊆◌, ◌∩◌, ◌∪◌, ◌∖◌, just}
@@ -29,12 +23,10 @@ use Rattle.filters.specs.Failed.{alone, refuted, failed}
 use Rattle.filters.specs.Filtered.{Filtered}
 use Rattle.filters.specs.Step.{OnTheWay, Stepped, OneOfTwo, Stands, BothStand}
 use Rattle.filters.specs.Unit.{unit}
-use Rattle.filters.specs.declared.Step.{Step}
-use Rattle.filters.specs.declared.Step.TheVariants.{Shut, Open}
 use Rattle.filters.proofs.Failed.{Closed, refuted_out, failed_greatest}
 use Rattle.filters.proofs.Masks.{seen_at, size_words, Counted, in_mask, counted_size}
 use Rattle.filters.proofs.Promise.{way_start, way_in, way_shut, shut_start}
-use Rattle.filters.proofs.Steps.{not_shut, open_is, step_none, step_shut, step_says, step_over, steps_shut}
+use Rattle.filters.proofs.Steps.{step_none, step_shut, step_says, step_over, steps_shut}
 use Rattle.filters.proofs.Steps.{steps_then}
 use Rattle.filters.proofs.Unit.{unit_greatest}
 
@@ -151,13 +143,13 @@ module _ {a d : ℕ} {place : Place} {c m : ℕ} {p p₁ p₂ ys : List ℕ} {r 
       steps.opens G M ∙ ap (λ (X : Set). is_open G d (unit G d X)) (copy G N)
 
   pub trial_stands : r ≡ true → Stepped failed (λ G. Stands G d a) (w + w + w + w) d place p
-      (put_mid w (length p₂ - w) p₂ ys) (Open false)
+      (put_mid w (length p₂ - w) p₂ ys) (Some false)
   unfolding refuted
   trial_stands o = record {
     rest = outside_wide 0 (w + w + w + w) (omega arith) (omega arith) out₃;
-    shut = λ t. not_shut false t;
+    shut = λ t. absurd cc;
     way = λ b t G N. rw own₃ (way_start G (Closed G) (failed G) (failed_greatest G) d (own_row place p));
-    fewer = λ t. clash false (open_is false true t) refl;
+    fewer = λ t. absurd cc;
     same = λ t. own₃;
     settled = λ t G N. rw (sym (opens G N) ∙ o) refl;
   }
@@ -187,11 +179,11 @@ module _ {a d : ℕ} {place : Place} {c m : ℕ} {p p₁ p₂ ys : List ℕ} {r 
         (seen_at N c a upto which.live)
         (not_in (sym (opens G N) ∙ o))
 
-    pub trial_struck : r₂ ≡ true → (r₂ ≡ true → count (64 * w) (own_row place p₅) ≤ count (64 * w) (own_row place p₄))
-        → Stepped failed (λ G. Stands G d a) (w + w + w + w) d place p p₅ (Open true)
+    trial_struck : r₂ ≡ true → (r₂ ≡ true → count (64 * w) (own_row place p₅) ≤ count (64 * w) (own_row place p₄))
+        → Stepped failed (λ G. Stands G d a) (w + w + w + w) d place p p₅ (Some true)
     trial_struck i no_more = record {
       rest = out₅;
-      shut = λ t. not_shut true t;
+      shut = λ t. absurd cc;
       way = λ b t G N. rw (u.says G (node₄ G N) i, own₄) (way₄ G N);
       fewer = λ t. let h = meet_l (own_row place p) (row_at p w masks c) a which.live in
           omega (
@@ -200,15 +192,19 @@ module _ {a d : ℕ} {place : Place} {c m : ℕ} {p p₁ p₂ ys : List ℕ} {r 
             ap (count (64 * w)) own₄,
             count_without (64 * w) (own_row place p) a (row_member p w 0 a h) h,
           );
-      same = λ t. clash true refl (open_is true false t);
-      settled = λ t. clash true refl (open_is true false t);
+      same = λ t. absurd cc;
+      settled = λ t. absurd cc;
     }
 
-    pub trial_shut : r₂ ≡ false → Stepped failed (λ G. Stands G d a) (w + w + w + w) d place p p₅ Shut
+    trial_shut : r₂ ≡ false → Stepped failed (λ G. Stands G d a) (w + w + w + w) d place p p₅ None
     trial_shut i = step_shut failed Closed failed_greatest room out₅ (λ G N.
         way_shut G (Closed G) (failed G) (failed_greatest G) d _ _ (way₄ G N)
         (shut_start G (Closed G) (failed G) (failed_greatest G) d _
         (ap (λ (X : Set). is_open G d (unit G d X)) (sym own₄) ∙ sym (u.opens G (node₄ G N)) ∙ i)))
+
+    pub trial_refuted : (r₂ ≡ true → count (64 * w) (own_row place p₅) ≤ count (64 * w) (own_row place p₄))
+        → Stepped failed (λ G. Stands G d a) (w + w + w + w) d place p p₅ (then_some r₂ true)
+    trial_refuted h = bool r₂ (λ i. rw i (trial_struck i h)) (λ i. rw i (trial_shut i))
 
 -- `try_class`
 
@@ -237,13 +233,13 @@ module _ {place : Place} {c m x : ℕ} {p : List ℕ} (C : Counted (four_rows pl
   open place use {w, masks}
 
   pub class_none : {d : ℕ} → (x ≡ 2 → ⊥)
-      → Stepped failed (λ G. BothStand G d c) (w + w + w + w) d place p p (Open false)
+      → Stepped failed (λ G. BothStand G d c) (w + w + w + w) d place p p (Some false)
   unfolding two
   class_none h = step_none failed Closed failed_greatest C.room
       (λ G N t. absurd (h (sym (counted_size C N) ∙ eqb-true (size G c (own_row place p)) 2 t)))
 
   -- the lower is struck, or a class is empty
-  pub lower_over : (a : ℕ) {d : ℕ} {q : List ℕ} {r : Step} → (r ≡ Open false → ⊥)
+  pub lower_over : (a : ℕ) {d : ℕ} {q : List ℕ} {r : Option Bool} → (r ≡ Some false → ⊥)
       → Stepped failed (λ G. Stands G d a) (w + w + w + w) d place p q r
       → Stepped failed (λ G. BothStand G d c) (w + w + w + w) d place p q r
   lower_over a h S = step_over failed Closed failed_greatest C.room h S
@@ -260,7 +256,7 @@ module _ {place : Place} {c m x : ℕ} {p : List ℕ} (C : Counted (four_rows pl
 
     -- the lower stands, so that there are two still
     module _ {d : ℕ} {q : List ℕ} (S : Stepped failed (λ G. Stands G d a) (w + w + w + w) d place p q
-        (Open false)) where
+        (Some false)) where
       same : own_row place q ∩ row_at q w masks c ≡ own_row place p ∩ row_at p w masks c
       same = ap₂ (λ (X Y : Set). X ∩ Y) (S.same refl)
           (above S.rest w (masks + c * w) (omega (arith, C.room.masks_after)))
@@ -288,9 +284,9 @@ module _ {place : Place} {c m x : ℕ} {p : List ℕ} (C : Counted (four_rows pl
             go (inl q) = rw q h.0
             go (inr q) = rw q h.1
 
-        pub both_tried : {q₂ : List ℕ} (r : Step) → Stepped failed (λ G. Stands G d b) (w + w + w + w) d place q q₂ r
+        pub both_tried : {q₂ : List ℕ} (r : Option Bool) → Stepped failed (λ G. Stands G d b) (w + w + w + w) d place q q₂ r
             → Stepped failed (λ G. BothStand G d c) (w + w + w + w) d place p q₂ r
-        both_tried Shut T = steps_shut failed Closed failed_greatest C.room false S T
-        both_tried (Open i) T = step_says failed Closed failed_greatest C.room both
+        both_tried None T = steps_shut failed Closed failed_greatest C.room false S T
+        both_tried (Some i) T = step_says failed Closed failed_greatest C.room both
             (steps_then failed Closed failed_greatest C.room false S {Q = λ G L. Stands G d a L × Stands G d b L} i
             (λ G L u v. (u, v)) T)

@@ -1,11 +1,5 @@
 -- Unit steps leave the greatest unit-closed set, or a class empty.
-use mathlib.Core.Path.{◌≡◌, refl, sym, subst, ◌∙◌}
-use mathlib.Core.Bool.{Bool, true, false, not, ◌||◌}
-use mathlib.Core.Logic.{◌⊎◌, inl, inr}
-use Prim.Native.Nat.{ℕ, zero, suc, ◌≤◌, ◌<◌}
-use native.Mathlib.Omega.{arith}
-use lib.Dec.{eqb, ltb, leb}
-use borrow.Author.Tests.{eqb-true, eq-eqb, ltb-true, ltb-false, leb-true, le-leb}
+use Rattle.std.proofs.Common.{◌≡◌, refl, sym, subst, ◌∙◌, Bool, true, false, not, ◌||◌, ◌⊎◌, inl, inr, ℕ, zero, suc, ◌≤◌, ◌<◌, arith, eqb, ltb, leb, eqb-true, eq-eqb, ltb-true, ltb-false, leb-true, le-leb}
 use Rattle.sets.specs.Below.{any, count}
 use Rattle.sets.specs.Sets.{Set, ◌⊆◌, ◌∪◌, just, nothing}
 use Rattle.sets.proofs.Tests.{clash, and_l, and_r, and_in, or_l, or_r, or_case, not_out, not_in, bool, case}

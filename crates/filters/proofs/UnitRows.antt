@@ -1,14 +1,9 @@
 -- Unit steps in words: the lone vertex of a class strikes, the classes are visited, and passes repeat.
-use mathlib.Core.Path.{◌≡◌, refl, sym, ap, ap₂, subst, ◌∙◌, fun_ext}
-use mathlib.Core.Bool.{Bool, true, false, not, ◌&&◌, ◌||◌}
-use mathlib.Core.List.{List}
-use Prim.Native.Nat.{ℕ, ◌+◌, ◌*◌, ◌≤◌, ◌<◌}
-use native.Mathlib.Omega.{arith}
-use lib.Dec.{eqb, ltb}
-use borrow.Author.Tests.{eqb-true, eq-eqb, ltb-true}
+use Rattle.std.proofs.Common.{◌≡◌, refl, sym, ap, ap₂, subst, ◌∙◌, Bool, true, false, not, ◌&&◌, ◌||◌, List, ℕ, ◌+◌, ◌*◌, ◌≤◌, ◌<◌, arith, eqb, ltb, eqb-true, eq-eqb, ltb-true, None, Some}
+use mathlib.Core.Path.{fun_ext}
 use Rattle.sets.specs.Below.{count}
 use Rattle.sets.specs.Sets.{Set, ◌∩◌, ◌∪◌, ◌∖◌}
-use Rattle.sets.proofs.Tests.{clash, bool, is_false, below as upto}
+use Rattle.sets.proofs.Tests.{clash, bool, is_false}
 use Rattle.sets.proofs.Below.{count_less}
 use Rattle.sets.proofs.Sets.{meet_l, meet_r, meet_self}
 use Rattle.vset.specs.Words.{Least, Emptiness}
@@ -20,10 +15,9 @@ use Rattle.cliques.proofs.Graph.{size_pos, size_some, lower_at, lone_sole, open_
 use Rattle.cliques.specs.declared.Place.{Place}
 use Rattle.filters.specs.Step.{Stepped, StruckOthers, Calm, Rests}
 use Rattle.filters.specs.Unit.{stays, strike, unit}
-use Rattle.filters.specs.declared.Step.TheVariants.{Shut, Open}
 use Rattle.filters.proofs.Masks.{seen_at, at_seen, Counted, in_mask, counted_size}
 use Rattle.filters.proofs.Promise.{way_start, way_in, way_ends, shut_start}
-use Rattle.filters.proofs.Steps.{not_shut, open_is, step_none, step_shut, ClassesTo}
+use Rattle.filters.proofs.Steps.{step_none, step_shut, ClassesTo}
 use Rattle.filters.proofs.Unit.{UnitClosed, unit_greatest, strike_keeps, settled_closed}
 
 -- sets
@@ -114,14 +108,14 @@ module _ {place : Place} {c m live : ℕ} {p : List ℕ} (C : Counted (two_rows 
     (f : d ≤ c) where
   open place use {w, graph, n}
 
-  pub visit_shut : live ≡ 0 → Stepped unit (λ G. Calm G d c) (w + w) d place p p Shut
+  pub visit_shut : live ≡ 0 → Stepped unit (λ G. Calm G d c) (w + w) d place p p None
   visit_shut z = step_shut unit UnitClosed unit_greatest C.room (outside_none _ _ p)
       (λ G N. shut_start G (UnitClosed G) (unit G) (unit_greatest G) d (own_row place p)
       (is_false _ (λ o. let t = lower_at G c (own_row place p)
       (open_out G d (own_row place p) o c f (omega (arith, N.held.classes, C.upto))) in
       absurd (omega (arith, size_pos G c _ (own_row place p) t, counted_size C N)))))
 
-  pub visit_more : 1 < live → Stepped unit (λ G. Calm G d c) (w + w) d place p p (Open false)
+  pub visit_more : 1 < live → Stepped unit (λ G. Calm G d c) (w + w) d place p p (Some false)
   unfolding lone
   visit_more z = step_none unit UnitClosed unit_greatest C.room (λ G N. record {
     live = size_some G c (own_row place p) (omega (arith, counted_size C N));
@@ -136,7 +130,7 @@ module _ {place : Place} {c m live : ℕ} {p : List ℕ} (C : Counted (two_rows 
     unfolding lone
     is_lone G N = eq-eqb (size G c (own_row place p)) 1 (counted_size C N ∙ z)
 
-    pub visit_none : n ≤ v → Stepped unit (λ G. Calm G d c) (w + w) d place p p (Open false)
+    pub visit_none : n ≤ v → Stepped unit (λ G. Calm G d c) (w + w) d place p p (Some false)
     visit_none h = step_none unit UnitClosed unit_greatest C.room (λ G N.
         let t = lower_at G c (own_row place p) (has_one G N) in
         let i = lower G c (own_row place p) in
@@ -145,22 +139,22 @@ module _ {place : Place} {c m live : ℕ} {p : List ℕ} (C : Counted (two_rows 
         (y.none i (omega arith) q))
 
     pub visit_struck : {q : List ℕ} {r : Bool} → v < n → StruckOthers w m graph v p q r
-        → Stepped unit (λ G. Calm G d c) (w + w) d place p q (Open r)
+        → Stepped unit (λ G. Calm G d c) (w + w) d place p q (Some r)
     unfolding strike stays ◌∩◌ ◌∪◌
     visit_struck {q} {r} h S = record {
       rest = S.rest;
-      shut = λ t. not_shut r t;
+      shut = λ t. absurd cc;
       way = λ b t G N. way_in G (UnitClosed G) (unit G) (unit_greatest G) d (own_row place p) (own_row place q)
           (λ u i. meet_l (own_row place p) (row_at p w graph v ∪ set_at p w m) u
           (sym (ap (λ (X : Set). X u) S.own) ∙ i))
           (λ T o u i. rw (struck G N) (strike_keeps G d c (own_row place p) T o u i f
           (omega (arith, N.held.classes, C.upto)) (is_lone G N)));
-      fewer = λ t. S.fewer (open_is r true t);
-      same = λ t. S.same (open_is r false t);
+      fewer = λ t. S.fewer cc;
+      same = λ t. S.same cc;
       settled = λ t G N. record {
         live = has_one G N;
         still = λ _ u i. sym (ap (λ (X : Set). X u) (struck G N))
-            ∙ ap (λ (X : Set). X u) (S.same (open_is r false t)) ∙ i;
+            ∙ ap (λ (X : Set). X u) (S.same cc) ∙ i;
       };
     }
       where

@@ -1,5 +1,5 @@
 -- Some of a filter's strikes, made in words: they may come in any order, as long as the filter makes them too.
-use Rattle.std.specs.Prelude.{◌≡◌, Bool, true, false, List, ℕ, ◌+◌, ◌*◌, ◌≤◌, ◌<◌}
+use Rattle.std.specs.Prelude.{◌≡◌, Bool, true, false, Option, Some, None, List, ℕ, ◌+◌, ◌*◌, ◌≤◌, ◌<◌}
 use Rattle.sets.specs.Below.{count}
 use Rattle.sets.specs.Sets.{Set, ◌⊆◌, ◌∩◌, ◌∪◌}
 use Rattle.rows.specs.Rows.{set_at, row_at, Outside}
@@ -9,25 +9,23 @@ use Rattle.cliques.specs.declared.Place.{Place}
 use Rattle.filters.specs.Promise.{Filter}
 use Rattle.filters.specs.Unit.{strike, unit}
 use Rattle.filters.specs.Failed.{refuted}
-use Rattle.filters.specs.declared.Step.{Step}
-use Rattle.filters.specs.declared.Step.TheVariants.{Shut, Open}
 
 -- L is on the way from L₀ to what F leaves of it: where F leaves no remaining class empty, L has all that F leaves
 pub record OnTheWay (G : Graph) (F : Filter) (d : ℕ) (L₀ L : Set) : Type 0 where
   pub strikes : L ⊆ L₀
   pub keeps : is_open G d (F d L₀) ≡ true → F d L₀ ⊆ L
 
--- strikes of F were made at a node, from the part p to p'. Shut: F leaves a remaining class empty. Open: the own row is
--- on the way, and b says whether it has lost a vertex; where it has not, Q holds of it
+-- strikes of F were made at a node, from the part p to p'. None: F leaves a remaining class empty. Some b: the own row
+-- is on the way, and b says whether it has lost a vertex; where it has not, Q holds of it
 pub record Stepped (F : Graph → Filter) (Q : Graph → Set → Type 0) (s d : ℕ) (place : Place) (p p' : List ℕ)
-    (r : Step) : Type 0 where
+    (r : Option Bool) : Type 0 where
   pub rest : Outside 0 s p p'
-  pub shut : r ≡ Shut → (G : Graph) → Node G d place p → is_open G d (F G d (own_row place p)) ≡ false
-  pub way : (b : Bool) → r ≡ Open b → (G : Graph) → Node G d place p
+  pub shut : r ≡ None → (G : Graph) → Node G d place p → is_open G d (F G d (own_row place p)) ≡ false
+  pub way : (b : Bool) → r ≡ Some b → (G : Graph) → Node G d place p
       → OnTheWay G (F G) d (own_row place p) (own_row place p')
-  pub fewer : r ≡ Open true → count (64 * place.w) (own_row place p') < count (64 * place.w) (own_row place p)
-  pub same : r ≡ Open false → own_row place p' ≡ own_row place p
-  pub settled : r ≡ Open false → (G : Graph) → Node G d place p → Q G (own_row place p)
+  pub fewer : r ≡ Some true → count (64 * place.w) (own_row place p') < count (64 * place.w) (own_row place p)
+  pub same : r ≡ Some false → own_row place p' ≡ own_row place p
+  pub settled : r ≡ Some false → (G : Graph) → Node G d place p → Q G (own_row place p)
 
 -- of the own row was left what is beside v or in row m, and r says whether a vertex was struck
 pub record StruckOthers (w m graph v : ℕ) (p p' : List ℕ) (r : Bool) : Type 0 where

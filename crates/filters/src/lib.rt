@@ -22,30 +22,18 @@ use failed_rows::failed;
 pub use pre_filter_rows::pre_filter;
 use sweep_rows::sweep;
 
-// How strikes of a filter came out: a remaining class is empty, or will be; or the filter goes on, and a vertex was
-// struck or not.
-#[derive(Clone, Copy)]
-enum Step {
-    Shut,
-    Open { struck: bool },
-}
-
 // Whether no remaining class is empty.
 pub fn is_open(part: &[u64], place: Place, d: usize) -> bool
     requires { Room place.w place (length part.now) × (d ≤ place.k) }
     ensures { (G : Graph) → Node G d place part.now
         → result ≡ is_open G d (own_row place part.now) }
 {
-    let w = place.w;
-    let masks = place.masks;
-    let k = place.k;
-    let mut c = d;
-    while c < k {
+    let Place { w, masks, k, .. } = place;
+    for c in d..k {
         let m = rows::row_at(masks, w, c, k);
         if rows::is_empty_common(part, w, 0, m) {
             return false;
         }
-        c += 1;
     }
     true
 }
@@ -63,6 +51,7 @@ fn unit_filter(part: &mut [u64], place: Place, d: usize, filters: u32) -> bool
 }
 
 // The filters of a node, as filter number `filters` has them switched: whether they leave no remaining class empty.
+// `filters` is a number, as the caller's setting may be any: each bit is tested where it counts.
 pub fn filter(part: &mut [u64], place: Place, d: usize, filters: u32) -> bool
     requires { Room (four_rows place) place (length part.old) × (d ≤ place.k) }
     ensures { Filtered (at_node filters) (four_rows place) d place part.old part.new result }

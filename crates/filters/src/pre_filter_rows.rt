@@ -15,18 +15,12 @@ pub fn pre_filter(part: &mut [u64], place: Place) -> bool
     ensures { Filtered (λ G d L. pre_filter G G.cls L) (three_rows place) 0 place
         part.old part.new result }
 {
-    let w = place.w;
-    let masks = place.masks;
-    let graph = place.graph;
-    let n = place.n;
-    let k = place.k;
+    let Place { w, masks, k, .. } = place;
     let u = w + w;
-    let mut e = 0;
-    while e < k {
+    for e in 0..k {
         let m = rows::row_at(masks, w, e, k);
         rows::copy(part, w, u, m);
-        strike_unreached(part, w, m, graph, n);
-        e += 1;
+        strike_unreached(part, w, m, place.graph, place.n);
     }
     is_open(part, place, 0)
 }

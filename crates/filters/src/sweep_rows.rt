@@ -28,18 +28,12 @@ pub fn sweep(part: &mut [u64], place: Place, d: usize) -> bool
     requires { Room (four_rows place) place (length part.old) × (d ≤ place.k) }
     ensures { Filtered colour_sweep (four_rows place) d place part.old part.new result }
 {
-    let w = place.w;
-    let masks = place.masks;
-    let graph = place.graph;
-    let n = place.n;
-    let k = place.k;
+    let Place { w, masks, k, .. } = place;
     let a = w + w + w;
     rows::clear(part, w, a);
-    let mut e = d;
-    while e < k {
+    for e in d..k {
         let m = rows::row_at(masks, w, e, k);
-        sweep_by(part, w, m, graph, n);
-        e += 1;
+        sweep_by(part, w, m, place.graph, place.n);
     }
     is_open(part, place, d)
 }

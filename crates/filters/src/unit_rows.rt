@@ -1,6 +1,6 @@
 // Unit steps. The lone vertex of a class strikes its non-neighbours; classes are visited in rising order, pass after
 // pass, until one strikes nothing. What is left is the same in any order of the strikes, so that no class taken has to
-// be kept.
+// be kept. A step gives None where a remaining class is empty, and otherwise whether it struck a vertex.
 ghost use Rattle.std.specs.Prelude.{◌≡◌, true, ℕ, ◌+◌, ◌*◌, ◌<◌, ◌≤◌, length};
 ghost use Rattle.sets.specs.Below.{count};
 ghost use Rattle.cliques.specs.Words.{own_row, Room, two_rows};
@@ -8,7 +8,6 @@ ghost use Rattle.filters.specs.Filtered.{Filtered};
 ghost use Rattle.filters.specs.Step.{Stepped, StruckOthers, Calm, Rests};
 ghost use Rattle.filters.specs.Unit.{unit};
 
-use crate::Step;
 use cliques::Place;
 
 // Strikes from the own row whoever is neither a neighbour of v nor in row m: whether there was one.
@@ -29,49 +28,38 @@ fn strike_others(part: &mut [u64], w: usize, m: usize, graph: usize, n: usize, v
 }
 
 // A visit to class c: where it has one live vertex, that strikes its non-neighbours in other classes.
-fn visit(part: &mut [u64], place: Place, c: usize) -> Step
+fn visit(part: &mut [u64], place: Place, c: usize) -> Option<bool>
     requires { Room (two_rows place) place (length part.old) × (c < place.k) }
     ensures { (d : ℕ) → d ≤ c
         → Stepped unit (λ G. Calm G d c) (two_rows place) d place part.old part.new result }
 {
-    let w = place.w;
-    let masks = place.masks;
-    let graph = place.graph;
-    let n = place.n;
-    let k = place.k;
+    let Place { w, masks, n, k, .. } = place;
     let m = rows::row_at(masks, w, c, k);
     let live = rows::size_common(part, w, 0, m);
     if live == 0 {
-        return Step::Shut;
+        return None;
     }
     if live > 1 {
-        return Step::Open { struck: false };
+        return Some(false);
     }
     let v = rows::next_common(part, w, 0, m, 0);
     // never at a node: there each live vertex is below n
     if v >= n {
-        return Step::Open { struck: false };
+        return Some(false);
     }
-    let struck = strike_others(part, w, m, graph, n, v);
-    Step::Open { struck }
+    Some(strike_others(part, w, m, place.graph, n, v))
 }
 
 // A pass: each remaining class is visited once.
-fn pass(part: &mut [u64], place: Place, d: usize) -> Step
+fn pass(part: &mut [u64], place: Place, d: usize) -> Option<bool>
     requires { Room (two_rows place) place (length part.old) × (d ≤ place.k) }
     ensures { Stepped unit (λ G. Rests G d) (two_rows place) d place part.old part.new result }
 {
-    let k = place.k;
     let mut struck = false;
-    let mut c = d;
-    while c < k {
-        let Step::Open { struck: here } = visit(part, place, c) else {
-            return Step::Shut;
-        };
-        struck = struck | here;
-        c += 1;
+    for c in d..place.k {
+        struck |= visit(part, place, c)?;
     }
-    Step::Open { struck }
+    Some(struck)
 }
 
 // Unit steps: whether they leave no remaining class empty.
@@ -81,12 +69,11 @@ pub fn unit_steps(part: &mut [u64], place: Place, d: usize) -> bool
     ensures no_more { result ≡ true → count (64 * place.w) (own_row place part.new)
         ≤ count (64 * place.w) (own_row place part.old) }
 {
-    let mut go_on = true;
-    while go_on {
-        let Step::Open { struck } = pass(part, place, d) else {
-            return false;
-        };
-        go_on = struck;
+    loop {
+        match pass(part, place, d) {
+            None => return false,
+            Some(false) => return true,
+            Some(true) => {}
+        }
     }
-    true
 }

@@ -1,14 +1,9 @@
 -- Laws of the buckets: a vertex filed, and the walk through the bucket of a frequency.
-use mathlib.Core.Path.{◌≡◌, refl, sym, ap, ◌∙◌, fun_ext}
-use mathlib.Core.Bool.{Bool, true, false, ◌&&◌, ◌||◌}
-use mathlib.Core.List.{List}
-use Prim.Native.Nat.{ℕ, ◌+◌, ◌*◌, ◌/◌, ◌≤◌, ◌<◌}
+use Rattle.std.proofs.Common.{◌≡◌, refl, sym, ap, ◌∙◌, Bool, true, false, ◌&&◌, ◌||◌, List, ℕ, ◌+◌, ◌*◌, ◌/◌, ◌≤◌, ◌<◌, arith, eqb, ltb, get_or, replicate, eqb-true, ltb-true, eq-eqb, ne_eqb, lt-ltb, le-ltb}
+use mathlib.Core.Path.{fun_ext}
 use native.Mathlib.Decide.{ℕ_discrete, dec_lt}
-use native.Mathlib.Omega.{arith}
-use lib.Dec.{eqb, ltb}
-use lib.ListN.{length, get_or, replicate, length-replicate, get_or-replicate}
+use lib.ListN.{length-replicate, get_or-replicate}
 use lib.ListN.{get_or-eq_default}
-use borrow.Author.Tests.{eqb-true, ltb-true, eq-eqb, ne_eqb, lt-ltb, le-ltb}
 use Rattle.sets.specs.Sets.{Set, ◌∩◌, ◌∪◌, ◌∖◌, nothing, just}
 use Rattle.sets.proofs.Tests.{clash, is_false, iff, and_l, and_r, and_in, and_false, or_r}
 use Rattle.sheet_rows.specs.Rows.{freq}

@@ -1,10 +1,5 @@
 -- The graph of an accepted job: adjacency goes both ways and never inside a layer, and there are k layers.
-use mathlib.Core.Path.{◌≡◌, sym, ap, ◌∙◌}
-use mathlib.Core.Bool.{true, false, not, cond, ◌&&◌}
-use mathlib.Core.List.{List}
-use Prim.Native.Nat.{ℕ, ◌<◌}
-use lib.Dec.{eqb, ltb}
-use borrow.Author.Tests.{eq-eqb, ne_eqb, ltb-true, lt-ltb}
+use Rattle.std.proofs.Common.{◌≡◌, sym, ap, ◌∙◌, true, false, not, cond, ◌&&◌, List, ℕ, ◌<◌, eqb, ltb, eq-eqb, ne_eqb, ltb-true, lt-ltb}
 use Rattle.sets.proofs.Tests.{clash, is_false, iff, and_l, and_r, and_in, not_out, not_in}
 use Rattle.sheet.specs.Sheet.{k_of, n_of, q_of, freq_part, rule_part, pair_part}
 use Rattle.sheet.specs.Accepted.{Accepted}

@@ -1,13 +1,7 @@
 -- Laws of the adjacency rows: row u before any rule, what one rule more makes of it, and the rows under all rules.
-use mathlib.Core.Path.{◌≡◌, sym, ap, subst, ◌∙◌, fun_ext}
-use mathlib.Core.Bool.{Bool, true, false, not, ◌&&◌, ◌||◌}
-use mathlib.Core.List.{List}
-use Prim.Native.Nat.{ℕ, ◌+◌, ◌-◌, ◌*◌, ◌≤◌, ◌<◌}
+use Rattle.std.proofs.Common.{◌≡◌, sym, ap, subst, ◌∙◌, Bool, true, false, not, ◌&&◌, ◌||◌, List, ℕ, ◌+◌, ◌-◌, ◌*◌, ◌≤◌, ◌<◌, mul-le-mul_right, arith, eqb, ltb, eqb-true, eq-eqb, lt-ltb, le-ltb}
+use mathlib.Core.Path.{fun_ext}
 use native.Mathlib.Decide.{dec_lt}
-use native.Mathlib.Nat.{mul-le-mul_right}
-use native.Mathlib.Omega.{arith}
-use lib.Dec.{eqb, ltb}
-use borrow.Author.Tests.{eqb-true, eq-eqb, lt-ltb, le-ltb}
 use Rattle.sets.specs.Sets.{Set, ◌∪◌, ◌∖◌, nothing, whole}
 use Rattle.sets.proofs.Tests.{clash, bool, is_false, eqb_turned, and_l, and_r}
 use Rattle.sheet_rows.specs.Rows.{link_first, link_count, freq, rule_a, rule_b}

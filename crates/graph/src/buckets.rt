@@ -36,10 +36,8 @@ fn file_vertices(table: &mut [u64], wide: usize, fs: &[u8], n: usize)
         × (freq_bytes * n ≤ length fs.now) }
     ensures { Filed fs.now n wide table.new }
 {
-    let mut v = 0;
-    while v < n {
+    for v in 0..n {
         file_vertex(table, wide, fs, v);
-        v += 1;
     }
 }
 
@@ -99,11 +97,8 @@ fn separate_all(part: &mut [u64], place: Place, table: &[u64], wide: usize, fs: 
     ensures { Rewritten (separated fs.now place.n) 0 place.n
         place.w place.graph place.n part.old part.new }
 {
-    let n = place.n;
-    let mut u = 0;
-    while u < n {
+    for u in 0..place.n {
         separate_row(part, place, table, wide, fs, u);
-        u += 1;
     }
 }
 
@@ -114,7 +109,7 @@ pub fn separate_rows(part: &mut [u64], place: Place, fs: &[u8])
     ensures { Rewritten (separated fs.now place.n) 0 place.n
         place.w place.graph place.n part.old part.new }
 {
-    let wide = (place.n + 63) / 64;
+    let wide = place.n.div_ceil(64);
     let mut table = [0u64; 2048];
     file_vertices(&mut table, wide, fs, place.n);
     separate_all(part, place, &table, wide, fs);

@@ -62,10 +62,8 @@ fn build_rows(
 {
     start_rows(part, place, sheet);
     separate_rows(part, place, fs);
-    let mut j = 0;
-    while j < q {
+    for j in 0..q {
         apply_rule(part, place, sheet, fs, rs, ps, j);
-        j += 1;
     }
 }
 

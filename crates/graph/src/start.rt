@@ -31,11 +31,9 @@ fn repeat_row(part: &mut [u64], place: Place, first: usize, end: usize)
 {
     let w = place.w;
     let from = rows::row_at(place.graph, w, first, place.n);
-    let mut u = first + 1;
-    while u < end {
+    for u in first + 1..end {
         let row = rows::row_at(place.graph, w, u, place.n);
         rows::copy(part, w, row, from);
-        u += 1;
     }
 }
 
@@ -65,13 +63,10 @@ pub fn start_rows(part: &mut [u64], place: Place, sheet: &[u8])
 {
     let w = place.w;
     let n = place.n;
-    let k = place.k;
     let last = rows::row_at(place.graph, w, n - 1, n);
     rows::clear(part, w, last);
     add_span(part, w, last, 0, n);
-    let mut l = 0;
-    while l < k {
+    for l in 0..place.k {
         start_link(part, place, last, sheet, l);
-        l += 1;
     }
 }

@@ -16,14 +16,14 @@ use Rattle.vset.specs.Words.{has, Least}
 use Rattle.rows.specs.Rows.{set_at, row_at}
 use Rattle.sheet_rows.specs.Form.{most_freqs}
 use Rattle.lines.specs.Lines.{ascii, decimal, line}
-use Rattle.output.specs.Output.{Wrote}
-use Rattle.output.proofs.Wrote.{wrote_none, wrote_then, wrote_same}
+use Rattle.output.specs.declared.Output.{Output}
+use Rattle.output.specs.Puts.{Puts}
+use Rattle.output.proofs.Puts.{puts_none, puts_then, puts_same}
 use Rattle.dimacs.specs.Lists.{select, for_each}
 use Rattle.dimacs.specs.Export.{is_edge, edge_codes, edge_text, graph_text, count_text, counts_text}
 use Rattle.dimacs.proofs.Lists.{each_append, select_skip}
 use Rattle.dimacs.proofs.Codes.{code_first, code_second}
-use Rattle.graph_export.specs.Gives.{most_graph}
-use Rattle.graph_export.specs.Rows.{row_words, RowsHold, edge_codes_to, lines_to, EdgesCounted, LinesPut, Puts}
+use Rattle.graph_export.specs.Rows.{row_words, RowsHold, edge_codes_to, lines_to, EdgesCounted, LinesPut}
 
 -- of at most 1,024 vertices
 pub square_few : (n : ℕ) → n ≤ most_freqs → n * n ≤ 1048576
@@ -140,31 +140,31 @@ module _ {n u : ℕ} {p : List ℕ} (h : u < n) where
         omega arith;
   }
 
-  pub lines_start : {v : ℕ} (o : List ℕ) (at : ℕ) → Least (row_at p row_words 0 u) (u + 1) n v
-      → LinesPut n (u * n) (u * n + v) (24 * v) p o at o at
-  lines_start {v} o at L = record {
+  pub lines_start : {v : ℕ} (o : Output) → Least (row_at p row_words 0 u) (u + 1) n v
+      → LinesPut n (u * n) (u * n + v) (24 * v) p o o
+  lines_start {v} o L = record {
     few = omega arith;
-    size = refl;
-    wrote = λ adj H b from W.
-        wrote_same (ap (for_each (edge_text n)) (sym (codes_start n adj u v h (least_of adj H L)))) W;
+    same = refl;
+    wrote = λ adj H q P.
+        puts_same (ap (for_each (edge_text n)) (sym (codes_start n adj u v h (least_of adj H L)))) P;
   }
 
-  pub lines_more : {v w at e r : ℕ} {o q t : List ℕ} → LinesPut n (u * n) (u * n + v) (24 * v) p o at q e
+  pub lines_more : {v w : ℕ} {o q t : Output} → LinesPut n (u * n) (u * n + v) (24 * v) p o q
       → AtNeighbour n u v p → v < n
-      → Wrote (line (ascii "e " ++ decimal (u + 1)) (v + 1)) q e t r → r ≤ e + 24
-      → Least (row_at p row_words 0 u) (v + 1) n w → LinesPut n (u * n) (u * n + w) (24 * w) p o at t r
+      → Puts (line (ascii "e " ++ decimal (u + 1)) (v + 1)) q t → t.end ≤ q.end + 24
+      → Least (row_at p row_words 0 u) (v + 1) n w → LinesPut n (u * n) (u * n + w) (24 * w) p o t
   unfolding edge_text for_each
-  lines_more {v} {w} {at} {e} {r} P A l W few L = record {
+  lines_more {v} {w} P A l W few L = record {
     few = omega (arith, P.few, L.after);
-    size = W.size ∙ P.size;
-    wrote = λ adj H b from X.
+    same = W.same ∙ P.same;
+    wrote = λ adj H b X.
         let z = u * n + v in
         let s = codes_more n adj u v w A.above l (found_of adj H A l) (least_of adj H L) in
         let x : line (ascii "e " ++ decimal (u + 1)) (v + 1) ≡ edge_text n z =
         sym (rw (code_first n u v l, code_second n u v l) refl) in
         let y = ap (for_each (edge_text n)) s ∙ each_append (edge_text n) (edge_codes_to n adj z) (z ∷ [])
         ∙ ap (λ i. lines_to n adj z ++ i) (append-nil (edge_text n z)) in
-        wrote_same (sym y) (wrote_then (P.wrote adj H b from X) (wrote_same x W));
+        puts_same (sym y) (puts_then (P.wrote adj H b X) (puts_same x W));
   }
 
 -- the rows, one after another
@@ -178,50 +178,47 @@ counted_then E F = record { answer = λ adj H. let x = E.answer adj H in let y =
 pub counted_to : {n a b c x : ℕ} {p : List ℕ} → b ≡ c → EdgesCounted n a b p x → EdgesCounted n a c p x
 counted_to {n} {a} {b} {c} {x} {p} e E = subst (λ i. EdgesCounted n a i p x) e E
 
-pub lines_none : (n : ℕ) (p o : List ℕ) (at : ℕ) → LinesPut n 0 0 0 p o at o at
-lines_none n p o at = record { few = omega arith; size = refl; wrote = λ adj H b from W. W }
+pub lines_none : (n : ℕ) (p : List ℕ) (o : Output) → LinesPut n 0 0 0 p o o
+lines_none n p o = record { few = omega arith; same = refl; wrote = λ adj H q P. P }
 
-pub lines_then : {n a b c i j at e r : ℕ} {p o q t : List ℕ} → LinesPut n a b i p o at q e → LinesPut n b c j p q e t r
-    → LinesPut n a c (i + j) p o at t r
+pub lines_then : {n a b c i j : ℕ} {p : List ℕ} {o q t : Output} → LinesPut n a b i p o q → LinesPut n b c j p q t
+    → LinesPut n a c (i + j) p o t
 lines_then P Q = record {
   few = omega (arith, P.few, Q.few);
-  size = Q.size ∙ P.size;
-  wrote = λ adj H b from W. Q.wrote adj H b from (P.wrote adj H b from W);
+  same = Q.same ∙ P.same;
+  wrote = λ adj H q W. Q.wrote adj H q (P.wrote adj H q W);
 }
 
-pub lines_to_lem : {n a b c i j at r : ℕ} {p o t : List ℕ} → b ≡ c → i ≡ j → LinesPut n a b i p o at t r
-    → LinesPut n a c j p o at t r
-lines_to_lem {n} {a} {b} {c} {i} {j} {at} {r} {p} {o} {t} e f P =
-    subst (λ x. LinesPut n a c x p o at t r) f (subst (λ x. LinesPut n a x i p o at t r) e P)
+pub lines_to_lem : {n a b c i j : ℕ} {p : List ℕ} {o t : Output} → b ≡ c → i ≡ j → LinesPut n a b i p o t
+    → LinesPut n a c j p o t
+lines_to_lem {n} {a} {b} {c} {i} {j} {p} {o} {t} e f P =
+    subst (λ x. LinesPut n a c x p o t) f (subst (λ x. LinesPut n a x i p o t) e P)
 
 -- the graph text
-pub first_line : (n m : ℕ) {o u : List ℕ} {at r : ℕ}
-    → Wrote (line ((112 ∷ 32 ∷ 101 ∷ 100 ∷ 103 ∷ 101 ∷ 32 ∷ []) ++ decimal n) m) o at u r
-    → Wrote (line (ascii "p edge " ++ decimal n) m) o at u r
+pub first_line : (n m : ℕ) {o u : Output}
+    → Puts (line ((112 ∷ 32 ∷ 101 ∷ 100 ∷ 103 ∷ 101 ∷ 32 ∷ []) ++ decimal n) m) o u
+    → Puts (line (ascii "p edge " ++ decimal n) m) o u
 unfolding ascii
 first_line n m w = w
 
-pub graph_put : {n m at r : ℕ} {p o q u : List ℕ} → n ≤ most_freqs → EdgesCounted n 0 (n * n) p m
-    → Wrote (line (ascii "p edge " ++ decimal n) m) o 0 q at → at ≤ 29
-    → LinesPut n 0 (n * n) (24 * (n * n)) p q at u r → Puts (graph_text n) n most_graph p o u r
+pub graph_put : {n m : ℕ} {p : List ℕ} {o q u : Output} → n ≤ most_freqs → EdgesCounted n 0 (n * n) p m
+    → Puts (line (ascii "p edge " ++ decimal n) m) o q → LinesPut n 0 (n * n) (24 * (n * n)) p q u
+    → (adj : ℕ → ℕ → Bool) → RowsHold adj n p → Puts (graph_text n adj) o u
 unfolding graph_text edge_codes select for_each
-graph_put {n} {m} {at} {r} {p} {o} {q} {u} h c w l x = record {
-  few = omega (arith, x.few, square_few n h);
-  wrote = λ adj H.
-      let m-is : m ≡ length (edge_codes_to n adj (n * n)) = omega (arith, c.answer adj H) in
-      wrote_then (wrote_same (ap (line (ascii "p edge " ++ decimal n)) m-is) w)
-      (x.wrote adj H q at (wrote_none q at));
-}
+graph_put {n} {m} {p} {o} {q} {u} h c w x adj H =
+    let m-is : m ≡ length (edge_codes_to n adj (n * n)) = omega (arith, c.answer adj H) in
+    puts_then (puts_same (ap (line (ascii "p edge " ++ decimal n)) m-is) w)
+    (x.wrote adj H q (puts_none q))
 
 -- the count text
-pub count_put : (c : ℕ) {at e r : ℕ} {o p q : List ℕ} → Wrote (decimal c) o at p e → Wrote (10 ∷ []) p e q r
-    → Wrote (count_text c) o at q r
+pub count_put : (c : ℕ) {o p q : Output} → Puts (decimal c) o p → Puts (10 ∷ []) p q
+    → Puts (count_text c) o q
 unfolding count_text ascii
-count_put c x y = wrote_then x y
+count_put c x y = puts_then x y
 
-pub counts_none : (f : ℕ → ℕ) (o : List ℕ) → Wrote (counts_text (tabulate 0 f)) o 0 o 0
+pub counts_none : (f : ℕ → ℕ) (o : Output) → Puts (counts_text (tabulate 0 f)) o o
 unfolding counts_text tabulate for_each
-counts_none f o = wrote_none o 0
+counts_none f o = puts_none o
 
 counts_line : (l : ℕ) (f : ℕ → ℕ) → counts_text (tabulate l f) ++ count_text (f l) ≡ counts_text (tabulate (l + 1) f)
 unfolding counts_text tabulate for_each
@@ -230,11 +227,11 @@ counts_line l f =
     (sym (each_append count_text (tabulate l f) (f l ∷ [])
     ∙ ap (λ x. for_each count_text (tabulate l f) ++ x) (append-nil (count_text (f l)))))
 
-pub counts_more : (l : ℕ) (f : ℕ → ℕ) (v : ℕ) {e r : ℕ} {o p q : List ℕ} → v ≡ f l
-    → Wrote (counts_text (tabulate l f)) o 0 p e → Wrote (count_text v) p e q r
-    → Wrote (counts_text (tabulate (l + 1) f)) o 0 q r
-counts_more l f v h x y = wrote_same (counts_line l f) (wrote_then x (wrote_same (ap count_text h) y))
+pub counts_more : (l : ℕ) (f : ℕ → ℕ) (v : ℕ) {o p q : Output} → v ≡ f l
+    → Puts (counts_text (tabulate l f)) o p → Puts (count_text v) p q
+    → Puts (counts_text (tabulate (l + 1) f)) o q
+counts_more l f v h x y = puts_same (counts_line l f) (puts_then x (puts_same (ap count_text h) y))
 
-pub counts_done : (l k : ℕ) (f : ℕ → ℕ) {e : ℕ} {o p : List ℕ} → l ≡ k → Wrote (counts_text (tabulate l f)) o 0 p e
-    → Wrote (counts_text (tabulate k f)) o 0 p e
-counts_done l k f h x = wrote_same (ap (λ m. counts_text (tabulate m f)) h) x
+pub counts_done : (l k : ℕ) (f : ℕ → ℕ) {o p : Output} → l ≡ k → Puts (counts_text (tabulate l f)) o p
+    → Puts (counts_text (tabulate k f)) o p
+counts_done l k f h x = puts_same (ap (λ m. counts_text (tabulate m f)) h) x

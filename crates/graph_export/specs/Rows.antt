@@ -3,6 +3,8 @@ use Rattle.std.specs.Prelude.{◌≡◌, Bool, List, ℕ, ◌+◌, ◌*◌, ◌�
 use Rattle.rows.specs.Rows.{row_at}
 use Rattle.sheet_rows.specs.Form.{most_freqs}
 use Rattle.output.specs.Output.{Wrote}
+use Rattle.output.specs.Puts.{Puts}
+use Rattle.output.specs.declared.Output.{Output}
 use Rattle.dimacs.specs.Lists.{select, for_each}
 use Rattle.dimacs.specs.Export.{is_edge, edge_text}
 
@@ -31,14 +33,15 @@ lines_to n adj z = for_each (edge_text n) (edge_codes_to n adj z)
 pub record EdgesCounted (n a b : ℕ) (p : List ℕ) (r : ℕ) : Type 0 where
   pub answer : (adj : ℕ → ℕ → Bool) → RowsHold adj n p → length (edge_codes_to n adj a) + r ≡ length (edge_codes_to n adj b)
 
--- the lines of the edges from code a up to code b were put at `at`, behind those before a, with at most `most` bytes
-pub record LinesPut (n a b most : ℕ) (p before : List ℕ) (at : ℕ) (after : List ℕ) (r : ℕ) : Type 0 where
-  pub few : r ≤ at + most
-  pub size : length after ≡ length before
-  pub wrote : (adj : ℕ → ℕ → Bool) → RowsHold adj n p → (o : List ℕ) (from : ℕ)
-      → Wrote (lines_to n adj a) o from before at → Wrote (lines_to n adj b) o from after r
+-- the lines of the edges from code a up to code b were put into o, which is o' now, behind those before a, with at most
+-- `most` bytes
+pub record LinesPut (n a b most : ℕ) (p : List ℕ) (o o' : Output) : Type 0 where
+  pub few : o'.end ≤ o.end + most
+  pub same : o'.bytes.ghost_name ≡ o.bytes.ghost_name
+  pub wrote : (adj : ℕ → ℕ → Bool) → RowsHold adj n p → (q : Output)
+      → Puts (lines_to n adj a) q o → Puts (lines_to n adj b) q o'
 
 -- a text of the graph was put, of at most `most` bytes
-pub record Puts (text : (ℕ → ℕ → Bool) → List ℕ) (n most : ℕ) (p before after : List ℕ) (r : ℕ) : Type 0 where
+pub record TextPut (text : (ℕ → ℕ → Bool) → List ℕ) (n most : ℕ) (p before after : List ℕ) (r : ℕ) : Type 0 where
   pub few : r ≤ most
   pub wrote : (adj : ℕ → ℕ → Bool) → RowsHold adj n p → Wrote (text adj) before 0 after r

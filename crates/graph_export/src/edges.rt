@@ -36,11 +36,9 @@ pub fn edge_count(part: &[u64], n: usize) -> usize
     requires { RowsIn n (length part.now) }
     ensures { EdgesCounted n 0 (n * n) part.now result × (result ≤ n * n) }
 {
-    let mut m: usize = 0;
-    let mut u = 0;
-    while u < n {
+    let mut m = 0;
+    for u in 0..n {
         m += row_count(part, n, u);
-        u += 1;
     }
     m
 }

@@ -9,46 +9,45 @@ ghost use Rattle.std.specs.Prelude.{◌≡◌, length};
 ghost use Rattle.sheet.specs.Accepted.{Accepted};
 ghost use Rattle.zeros.specs.Zeros.{zeros};
 ghost use Rattle.dimacs.specs.Export.{graph_text_of, counts_text_of, exported};
-ghost use Rattle.graph_export.specs.declared.ExportAnswer.TheVariants.{Short};
+ghost use Rattle.graph_export.specs.declared.ExportRefusal.{ExportRefusal};
 ghost use Rattle.graph_export.specs.Gives.{export_number, BothPut, ExportFinished, ExportGives};
 
 use crate::texts::{put_counts, put_graph};
 use cliques::Place;
 use graph::build_graph;
-use sheet::{Cause, Reading, cause_number, check_sheet, freqs_of, links_of};
-use zeros::zero_bytes;
+use sheet::{Cause, check_sheet, freqs_of, links_of};
+use zeros::zero;
 
-// What an export says: both texts are written, the sheet is refused, or an output is too short.
-#[derive(Clone, Copy)]
-pub enum ExportAnswer {
-    Written,
-    BadSheet(Cause),
+// Why there are no texts: the sheet is refused, or an output is too short.
+#[derive(Clone, Copy, Debug, PartialEq, Eq)]
+pub enum ExportRefusal {
+    Sheet(Cause),
     Short,
+}
+
+impl From<Cause> for ExportRefusal {
+    ghost from_gives = { λ cause refusal. refusal ≡ ExportRefusal.Sheet cause };
+
+    fn from(cause: Cause) -> ExportRefusal {
+        ExportRefusal::Sheet(cause)
+    }
 }
 
 // The lengths of the graph text and of the count text.
 #[derive(Clone, Copy)]
-struct Lengths {
-    pub graph: usize,
-    pub counts: usize,
-}
-
-// The answer with both lengths.
-#[derive(Clone, Copy)]
-pub struct Exported {
-    pub answer: ExportAnswer,
+pub struct Lengths {
     pub graph: usize,
     pub counts: usize,
 }
 
 // The paper's number for an answer.
-pub fn export_number(a: ExportAnswer) -> u32
-    ensures { result ≡ export_number a }
+pub fn export_number(r: Result<Lengths, ExportRefusal>) -> u32
+    ensures { result ≡ export_number r }
 {
-    match a {
-        ExportAnswer::Written => 0,
-        ExportAnswer::BadSheet(cause) => cause_number(cause),
-        ExportAnswer::Short => 15,
+    match r {
+        Ok(_) => 0,
+        Err(ExportRefusal::Sheet(cause)) => u32::from(cause),
+        Err(ExportRefusal::Short) => 15,
     }
 }
 
@@ -86,73 +85,45 @@ fn put_texts(sheet: &[u8], graph: &mut [u8], counts: &mut [u8]) -> Lengths
     put_both(sheet, &mut part, graph, counts)
 }
 
-// A refusal: no lengths.
-fn refused(answer: ExportAnswer) -> Exported
-    ensures { result ≡ record { answer = answer; graph = 0; counts = 0 } }
-{
-    Exported {
-        answer,
-        graph: 0,
-        counts: 0,
-    }
-}
-
 // Zeroes both outputs.
 fn zero_both(graph: &mut [u8], counts: &mut [u8])
     ensures { (graph.new ≡ zeros (length graph.old))
         × (counts.new ≡ zeros (length counts.old)) }
 {
-    zero_bytes(graph);
-    zero_bytes(counts);
-}
-
-// A text does not fit: both outputs are zeroed.
-fn too_short(graph: &mut [u8], counts: &mut [u8]) -> Exported
-    ensures { (result ≡ record { answer = Short; graph = 0; counts = 0 })
-        × (graph.new ≡ zeros (length graph.old))
-        × (counts.new ≡ zeros (length counts.old)) }
-{
-    zero_both(graph, counts);
-    refused(ExportAnswer::Short)
+    zero(graph);
+    zero(counts);
 }
 
 // The answer once both texts were put: where one did not fit, both outputs are zeroed.
-fn finish(lengths: Lengths, graph: &mut [u8], counts: &mut [u8]) -> Exported
+fn finish(lengths: Lengths, graph: &mut [u8], counts: &mut [u8]) -> Result<Lengths, ExportRefusal>
     ensures { ExportFinished lengths graph.old graph.new
         counts.old counts.new result }
 {
-    let g = lengths.graph;
-    let c = lengths.counts;
-    if graph.len() < g {
-        return too_short(graph, counts);
+    if graph.len() < lengths.graph || counts.len() < lengths.counts {
+        zero_both(graph, counts);
+        return Err(ExportRefusal::Short);
     }
-    if counts.len() < c {
-        return too_short(graph, counts);
-    }
-    Exported {
-        answer: ExportAnswer::Written,
-        graph: g,
-        counts: c,
-    }
+    Ok(lengths)
 }
 
 // The causes in the order tested, and the texts. Both outputs are zero before.
-fn export_zeroed(sheet: &[u8], graph: &mut [u8], counts: &mut [u8]) -> Exported
+fn export_zeroed(
+    sheet: &[u8],
+    graph: &mut [u8],
+    counts: &mut [u8],
+) -> Result<Lengths, ExportRefusal>
     requires { (graph.old ≡ zeros (length graph.old)) × (counts.old ≡ zeros (length counts.old)) }
     ensures { ExportGives (exported sheet.now (length graph.old)
         (length counts.old)) result graph.new counts.new }
 {
-    let reading = check_sheet(sheet);
-    if let Reading::Refused(cause) = reading {
-        return refused(ExportAnswer::BadSheet(cause));
-    }
+    check_sheet(sheet)?;
     let lengths = put_texts(sheet, graph, counts);
     finish(lengths, graph, counts)
 }
 
 // The export call: the two texts of a sheet with their lengths, and zeros after each; on every other answer both
 // outputs are zero.
-pub fn export(sheet: &[u8], graph: &mut [u8], counts: &mut [u8]) -> Exported
+pub fn export(sheet: &[u8], graph: &mut [u8], counts: &mut [u8]) -> Result<Lengths, ExportRefusal>
     ensures { ExportGives (exported sheet.now (length graph.old)
         (length counts.old)) result graph.new counts.new }
 {

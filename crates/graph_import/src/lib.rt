@@ -10,50 +10,46 @@ ghost use Rattle.zeros.specs.Zeros.{zeros};
 ghost use Rattle.dimacs.specs.Reading.{texts};
 ghost use Rattle.dimacs.specs.Import.{import_of, imported};
 ghost use Rattle.graph_sheet.specs.Pairs.{GraphIn, counts_in};
-ghost use Rattle.graph_import.specs.Gives.{import_number, ImportGives};
+ghost use Rattle.graph_import.specs.Gives.{of_texts, import_number, ImportGives};
 
-use graph_read::{TextsRead, read_texts};
-use graph_sheet::{Sizes, Totals, count_rules, put_sheet};
-use zeros::zero_bytes;
+use graph_read::{GraphSizes, TextsRefusal, read_texts};
+use graph_sheet::{Totals, count_rules, put_sheet};
+use zeros::zero;
 
-// What an import says: the sheet is written, a text is malformed or outside the limits, an edge is inside a link or
-// repeated, or there are too many pairs or the output is too short.
-#[derive(Clone, Copy)]
-pub enum ImportAnswer {
-    Written,
+// Why there is no sheet: a text is malformed or outside the limits, an edge is inside a link or repeated, or there are
+// too many pairs or the output is too short.
+#[derive(Clone, Copy, Debug, PartialEq, Eq)]
+pub enum ImportRefusal {
     Malformed,
     Clashing,
     Short,
 }
 
-// The answer with the sheet's length.
-#[derive(Clone, Copy)]
-pub struct Imported {
-    pub answer: ImportAnswer,
-    pub length: usize,
-}
+impl From<TextsRefusal> for ImportRefusal {
+    ghost from_gives = { λ x e. e ≡ of_texts x };
 
-// The paper's number for an answer.
-pub fn import_number(a: ImportAnswer) -> u32
-    ensures { result ≡ import_number a }
-{
-    match a {
-        ImportAnswer::Written => 0,
-        ImportAnswer::Malformed => 13,
-        ImportAnswer::Clashing => 14,
-        ImportAnswer::Short => 15,
+    fn from(refusal: TextsRefusal) -> ImportRefusal {
+        match refusal {
+            TextsRefusal::Malformed => ImportRefusal::Malformed,
+            TextsRefusal::Clashing => ImportRefusal::Clashing,
+        }
     }
 }
 
-// A refusal: no length.
-fn refused(answer: ImportAnswer) -> Imported
-    ensures { result ≡ record { answer = answer; length = 0 } }
+// The paper's number for an answer.
+pub fn import_number(r: Result<usize, ImportRefusal>) -> u32
+    ensures { result ≡ import_number r }
 {
-    Imported { answer, length: 0 }
+    match r {
+        Ok(_) => 0,
+        Err(ImportRefusal::Malformed) => 13,
+        Err(ImportRefusal::Clashing) => 14,
+        Err(ImportRefusal::Short) => 15,
+    }
 }
 
 // The bytes of the sheet of a graph with so many rules and pairs.
-fn sheet_bytes(s: Sizes, t: Totals) -> usize
+fn sheet_bytes(s: GraphSizes, t: Totals) -> usize
     requires { (s.links ≤ 64) × (s.vertices ≤ 512) × (t.rules ≤ 4096) × (t.pairs ≤ 8192) }
     ensures { result ≡ end_at made_bytes s.links s.vertices t.rules t.pairs }
 {
@@ -66,10 +62,10 @@ fn write_graph(
     counts: &[u64],
     firsts: &mut [u64],
     codes: &[u64],
-    s: Sizes,
+    s: GraphSizes,
     marks: &mut [u64],
     sheet: &mut [u8],
-) -> Imported
+) -> Result<usize, ImportRefusal>
     requires { GraphIn counts.now s (length codes.now) × (length firsts.old ≡ 64)
         × (length marks.old ≡ 4096) × (sheet.old ≡ zeros (length sheet.old)) }
     ensures { ImportGives (import_of (texts (counts_in counts.now s) (has codes.now))
@@ -77,16 +73,12 @@ fn write_graph(
 {
     let t = count_rules(counts, firsts, codes, s, marks);
     if t.pairs > 8192 {
-        return refused(ImportAnswer::Short);
+        return Err(ImportRefusal::Short);
     }
     if sheet.len() < sheet_bytes(s, t) {
-        return refused(ImportAnswer::Short);
+        return Err(ImportRefusal::Short);
     }
-    let length = put_sheet(sheet, counts, firsts, codes, s, marks, t);
-    Imported {
-        answer: ImportAnswer::Written,
-        length,
-    }
+    Ok(put_sheet(sheet, counts, firsts, codes, s, marks, t))
 }
 
 // The causes in the order tested, and the sheet, with words for the counts, for the codes of the edges, and for the
@@ -99,28 +91,18 @@ fn import_read(
     codes: &mut [u64],
     marks: &mut [u64],
     sheet: &mut [u8],
-) -> Imported
+) -> Result<usize, ImportRefusal>
     requires { (length counts.old ≡ 64) × (length firsts.old ≡ 64) × (length codes.old ≡ 4096)
         × (length marks.old ≡ 4096) × (sheet.old ≡ zeros (length sheet.old)) }
     ensures { ImportGives (imported text.now sizes.now (length sheet.old))
         result sheet.new }
 {
-    let t = read_texts(text, sizes, counts, codes);
-    match t {
-        TextsRead::Graph { k, n } => {
-            let s = Sizes {
-                links: k,
-                vertices: n,
-            };
-            write_graph(counts, firsts, codes, s, marks, sheet)
-        }
-        TextsRead::Clashing => refused(ImportAnswer::Clashing),
-        TextsRead::BadTexts => refused(ImportAnswer::Malformed),
-    }
+    let s = read_texts(text, sizes, counts, codes)?;
+    write_graph(counts, firsts, codes, s, marks, sheet)
 }
 
 // The same, with words of its own.
-fn import_zeroed(text: &[u8], sizes: &[u8], sheet: &mut [u8]) -> Imported
+fn import_zeroed(text: &[u8], sizes: &[u8], sheet: &mut [u8]) -> Result<usize, ImportRefusal>
     requires { sheet.old ≡ zeros (length sheet.old) }
     ensures { ImportGives (imported text.now sizes.now (length sheet.old))
         result sheet.new }
@@ -142,10 +124,10 @@ fn import_zeroed(text: &[u8], sizes: &[u8], sheet: &mut [u8]) -> Imported
 
 // The import call: the sheet of a graph text and of a text of the links' sizes, with its length, and zeros after it; on
 // every other answer the output is zero.
-pub fn import(text: &[u8], sizes: &[u8], sheet: &mut [u8]) -> Imported
+pub fn import(text: &[u8], sizes: &[u8], sheet: &mut [u8]) -> Result<usize, ImportRefusal>
     ensures { ImportGives (imported text.now sizes.now (length sheet.old))
         result sheet.new }
 {
-    zero_bytes(sheet);
+    zero(sheet);
     import_zeroed(text, sizes, sheet)
 }

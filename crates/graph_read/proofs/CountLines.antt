@@ -1,14 +1,9 @@
 -- The count text, read line by line.
-use mathlib.Core.Path.{◌≡◌, refl, sym, ap, subst, ◌∙◌}
-use mathlib.Core.Bool.{Bool, true, false}
-use mathlib.Core.List.{List, [], ◌∷◌, ◌++◌}
-use Prim.Native.Nat.{ℕ, zero, suc, ◌+◌, ◌-◌, ◌≤◌, ◌<◌, min}
-use native.Mathlib.Numerals.{add-one}
-use native.Mathlib.Omega.{arith}
-use lib.Dec.{leb}
-use lib.ListN.{length, take, drop, set, length-drop, drop_of_length-le}
-use lib.Seq.{take-suc-set, length-take-le, drop-cons}
-use borrow.Author.Tests.{lt-ltb, le-ltb, le-leb, lt-leb, leb-true, leb-false}
+use Rattle.std.proofs.Common.{◌≡◌, refl, sym, ap, subst, ◌∙◌, Bool, true, false, Option, Some, None, ◌⊎◌, ⊎_elim}
+use Rattle.std.proofs.Common.{List, [], ◌∷◌, ◌++◌, ℕ, zero, suc, ◌+◌, ◌-◌, ◌≤◌, ◌<◌, min, leb, add-one, arith}
+use Rattle.std.proofs.Common.{length, take, drop, set, length-drop, drop_of_length-le, take-suc-set, length-take-le}
+use Rattle.std.proofs.Common.{drop-cons, lt-ltb, le-ltb, le-leb, leb-true, leb-false}
+use Rattle.std.proofs.lemmas.Bool.{lt-leb}
 use Rattle.sets.specs.Below.{sum_to}
 use Rattle.sets.proofs.Tests.{bool, clash}
 use Rattle.dimacs.specs.Reading.{Number, no_number, number, field, newline, is_empty, first_of, vertices_of}
@@ -16,22 +11,20 @@ use Rattle.dimacs.specs.Reading.{count_fits, CountList, no_counts, counts, count
 use Rattle.dimacs.proofs.Choices.{yes_is, no_is, number_is, counts_turn}
 use Rattle.dimacs.proofs.Sound.{vertices_more}
 use Rattle.graph_read.specs.Read.{most_value, capped, Told, Fits, CountsTold}
-use Rattle.graph_read.specs.declared.CountsRead.TheVariants.{Links, Malformed}
-use Rattle.graph_read.specs.declared.Field.{Field}
-use Rattle.graph_read.specs.declared.Field.TheVariants.{Nothing}
+use Rattle.graph_read.specs.declared.Digits.{Digits}
 use Rattle.graph_read.proofs.Numbers.{Read, told_nothing}
 use Rattle.graph_read.proofs.Shorter.{After, field_shorter}
 
 -- whether a count may follow
 
-pub fits_many : (k total count : ℕ) → 64 ≤ k → Fits k total count false
+fits_many : (k total count : ℕ) → 64 ≤ k → Fits k total count false
 unfolding count_fits
 fits_many k total count h = record {
   answer = λ cs c e f g. rw (le-ltb (length cs) 64 (omega arith)) refl;
   small = λ q. clash false q refl;
 }
 
-pub fits_none : (k total count : ℕ) → k < 64 → count ≡ 0 → Fits k total count false
+fits_none : (k total count : ℕ) → k < 64 → count ≡ 0 → Fits k total count false
 unfolding count_fits capped
 fits_none k total count h z = record {
   answer = λ cs c e f g. let o : c ≤ 0 = omega arith in rw (lt-ltb (length cs) 64 (omega arith), le-ltb 0 c o) refl;
@@ -52,6 +45,10 @@ fits_sum k total count h ne few r e = record {
     same cs c f g = bool (leb count (512 - total))
         (λ t. let l = leb-true count (512 - total) t in t ∙ sym (le-leb (vertices_of cs + c) 512 (omega arith)))
         (λ t. t ∙ sym (lt-leb (vertices_of cs + c) 512 (omega (arith, leb-false count (512 - total) t))))
+
+pub fits_not : (k total count : ℕ) {r : Bool} → ((k < 64) × (count ≡ 0)) ⊎ (64 ≤ k) → r ≡ false → Fits k total count r
+fits_not k total count h e = subst (Fits k total count) (sym e)
+    (⊎_elim (λ n. fits_none k total count n.0 n.1) (λ m. fits_many k total count m) h)
 
 -- the counts of a text
 abbrev pub counts_in : List ℕ → CountList
@@ -111,10 +108,10 @@ pub next_later : (text : List ℕ) (at : ℕ) {value next : ℕ} → at < length
 next_later text at {value} {next} h r = field_later text [] newline at value next (omega arith) r
 
 module _ {text : List ℕ} {at k total : ℕ} {out : List ℕ} (p : SoFar text at k total out) (h : at < length text) where
-  ends : counts_from p.turns (take k out) (drop at text) ≡ no_counts → CountsTold (counts_in text) out Malformed
-  ends e = subst (λ w. CountsTold w out Malformed) (sym (p.same ∙ e)) refl
+  ends : counts_from p.turns (take k out) (drop at text) ≡ no_counts → CountsTold (counts_in text) out None
+  ends e = subst (λ w. CountsTold w out None) (sym (p.same ∙ e)) refl
 
-  pub bad_line : {f : Field} → f ≡ Nothing → Told text (line_at text at) f → CountsTold (counts_in text) out Malformed
+  pub bad_line : {f : Option Digits} → f ≡ None → Told text (line_at text at) f → CountsTold (counts_in text) out None
   bad_line e t = ends (turn_none p.turns (take k out) (drop at text) (some_left text at h)
       (told_nothing text (line_at text at) e t))
 
@@ -122,7 +119,7 @@ module _ {text : List ℕ} {at k total : ℕ} {out : List ℕ} (p : SoFar text a
     fit_is : (b : Bool) → Fits k total value b → b ≡ count_fits (take k out) r.v
     fit_is b F = F.answer (take k out) r.v (sym (length-take-le k out room)) p.sum r.value_is
 
-    pub unfit_line : {b : Bool} → Fits k total value b → b ≡ false → CountsTold (counts_in text) out Malformed
+    pub unfit_line : {b : Bool} → Fits k total value b → b ≡ false → CountsTold (counts_in text) out None
     unfit_line {b} F e = ends (turn_unfit p.turns (take k out) (drop at text) r.v (drop next text)
         (some_left text at h) r.is (sym (fit_is b F) ∙ e))
 
@@ -151,8 +148,8 @@ module _ {text : List ℕ} {at k total : ℕ} {out : List ℕ} (p : SoFar text a
 
 -- all lines are read
 pub counts_done : {text : List ℕ} {at k total : ℕ} {out : List ℕ} → SoFar text at k total out → length text ≤ at
-    → k ≤ length out → CountsTold (counts_in text) out (Links k)
+    → k ≤ length out → CountsTold (counts_in text) out (Some k)
 counts_done {text} {at} {k} {total} {out} p h room =
     let e = length-take-le k out room in
     let d = turn_end p.turns (take k out) (drop at text) (omega (arith, p.enough)) (drop_of_length-le text h) in
-    subst (λ w. CountsTold w out (Links k)) (sym (p.same ∙ d)) (ap Links (sym e), ap (λ j. take j out) e, omega arith)
+    subst (λ w. CountsTold w out (Some k)) (sym (p.same ∙ d)) (ap Some (sym e), ap (λ j. take j out) e, omega arith)

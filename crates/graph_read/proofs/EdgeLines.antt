@@ -1,12 +1,7 @@
 -- The `e` lines of the graph text, one by one, and whether an edge clashes.
-use mathlib.Core.Path.{◌≡◌, refl, sym, ap, subst, ◌∙◌}
-use mathlib.Core.Bool.{Bool, true, false, ◌||◌}
-use mathlib.Core.List.{List, []}
-use Prim.Native.Nat.{ℕ, zero, suc, ◌+◌, ◌-◌, ◌*◌, ◌≤◌, ◌<◌}
-use native.Mathlib.Omega.{arith}
-use native.Mathlib.Nat.{mul-le-mul}
-use lib.ListN.{length, drop, get_or, length-drop, drop_of_length-le}
-use borrow.Author.Tests.{eq-eqb, ne_eqb}
+use Rattle.std.proofs.Common.{◌≡◌, refl, sym, ap, subst, ◌∙◌, Bool, true, false, ◌||◌, Option, None, List, []}
+use Rattle.std.proofs.Common.{ℕ, zero, suc, ◌+◌, ◌-◌, ◌*◌, ◌≤◌, ◌<◌, mul-le-mul, arith, eq-eqb, ne_eqb}
+use Rattle.std.proofs.Common.{length, drop, get_or, length-drop, drop_of_length-le}
 use Rattle.sets.specs.Sets.{Set, ◌∪◌, just, nothing}
 use Rattle.vset.specs.Words.{has}
 use Rattle.dimacs.specs.Reading.{is_empty, vertices_of}
@@ -15,10 +10,8 @@ use Rattle.dimacs.specs.Reading.{Edges, no_edges, edges, edges_from}
 use Rattle.dimacs.proofs.Choices.{yes_is, no_is, edges_turn}
 use Rattle.dimacs.proofs.Codes.{code_lt}
 use Rattle.graph_read.specs.Read.{most_value}
-use Rattle.graph_read.specs.Graphs.{LayersTold, LineTold, EdgesTold}
-use Rattle.graph_read.specs.declared.edges.EdgeLine.{EdgeLine}
-use Rattle.graph_read.specs.declared.edges.EdgeLine.TheVariants.{NoEdge}
-use Rattle.graph_read.specs.declared.edges.EdgesRead.TheVariants.{Lines, BadLines}
+use Rattle.graph_read.specs.Graphs.{LayersTold, LineTold, lines_are, EdgesTold}
+use Rattle.graph_read.specs.declared.edges.Edge.{Edge}
 use Rattle.graph_read.proofs.CountLines.{some_left}
 use Rattle.graph_read.proofs.Firsts.{layer_at}
 use Rattle.graph_read.proofs.OneLine.{LineRead, told_no_line}
@@ -26,13 +19,6 @@ use Rattle.graph_read.proofs.OneLine.{LineRead, told_no_line}
 -- the codes of n vertices
 pub code_few : (n u v : ℕ) → n ≤ 512 → u < n → v < n → u * n + v < 262144
 code_few n u v h a b = omega (arith, code_lt n n u v a b, mul-le-mul h h)
-
--- a test of two, the second where the first fails
-pub or_yes : {a r : Bool} (b : Bool) → r ≡ a → r ≡ true → true ≡ (a || b)
-or_yes b e t = sym (ap (λ x. x || b) (sym e ∙ t))
-
-pub or_no : {a b r s : Bool} → r ≡ a → r ≡ false → s ≡ b → s ≡ (a || b)
-or_no {a} {b} e f g = g ∙ sym (ap (λ x. x || b) (sym e ∙ f))
 
 -- the edges from a place on
 abbrev pub edges_at : List ℕ → List ℕ → ℕ → Edges
@@ -72,13 +58,13 @@ module _ {cs text : List ℕ} {at place lines : ℕ} {E : Set} {x : Bool} (p : S
   line_same : {n : ℕ} → n ≡ vertices_of cs → edge_line (vertices_of cs) (drop place text) ≡ edge_line n (drop place text)
   line_same q = ap (λ i. edge_line i (drop place text)) (sym q)
 
-  pub bad_edge : (n : ℕ) (codes : List ℕ) {r : EdgeLine} → n ≡ vertices_of cs → place < length text → r ≡ NoEdge
-      → LineTold text place n (edge_line n (drop place text)) r → EdgesTold (edges_at cs text at) codes BadLines
+  pub bad_edge : (n : ℕ) (codes : List ℕ) {r : Option Edge} → n ≡ vertices_of cs → place < length text → r ≡ None
+      → LineTold text place n (edge_line n (drop place text)) r → EdgesTold (edges_at cs text at) codes None
   bad_edge n codes q h e t =
       let l = edge_line n (drop place text) in
       let none = told_no_line text place n l (subst (LineTold text place n l) e t) in
       let d = turn_none cs p.turns lines E x (drop place text) (some_left text place h) (line_same q ∙ none) in
-      subst (λ w. EdgesTold w codes BadLines) (sym (p.same ∙ d)) refl
+      subst (λ w. EdgesTold w codes None) (sym (p.same ∙ d)) refl
 
   pub so_far_more : {F : Set} {y b : Bool} {n u v next : ℕ} → n ≡ vertices_of cs → place < length text
       → LineRead text place n (edge_line n (drop place text)) u v next → b ≡ clashes cs E u v → y ≡ (x || b)
@@ -104,11 +90,11 @@ module _ {cs text : List ℕ} {at place lines : ℕ} {E : Set} {x : Bool} (p : S
       }
 
   pub edges_done : (codes : List ℕ) → E ≡ has codes → length text ≤ place → lines < most_value
-      → EdgesTold (edges_at cs text at) codes (Lines lines x)
+      → EdgesTold (edges_at cs text at) codes (lines_are lines x)
   edges_done codes e h few =
       let none = drop_of_length-le text h in
       let d = turn_end cs p.turns lines E x (drop place text) (omega (arith, p.enough)) none in
-      subst (λ w. EdgesTold w codes (Lines lines x)) (sym (p.same ∙ d)) (refl, sym e, few)
+      subst (λ w. EdgesTold w codes (lines_are lines x)) (sym (p.same ∙ d)) (refl, sym e, few)
 
 -- whether an edge clashes
 
@@ -117,11 +103,11 @@ module _ {cs : List ℕ} {n : ℕ} {layers : List ℕ} (t : LayersTold cs n laye
     abbrev repeated : Bool
     repeated = E (u * vertices_of cs + v) || E (v * vertices_of cs + u)
 
-    pub clash_inside : get_or layers u 0 ≡ get_or layers v 0 → true ≡ clashes cs E u v
+    pub clash_inside : {r : Bool} → get_or layers u 0 ≡ get_or layers v 0 → r ≡ true → r ≡ clashes cs E u v
     unfolding clashes
-    clash_inside e =
+    clash_inside e f =
         let q = sym (layer_at t few u a) ∙ e ∙ layer_at t few v b in
-        sym (ap (λ x. x || repeated) (eq-eqb _ _ q))
+        f ∙ sym (ap (λ x. x || repeated) (eq-eqb _ _ q))
 
     pub clash_repeated : {r : Bool} → (get_or layers u 0 ≡ get_or layers v 0 → ⊥) → r ≡ (E (u * n + v) || E (v * n + u))
         → r ≡ clashes cs E u v

@@ -1,29 +1,19 @@
 -- Laws of the digits of a text, read byte by byte, and of the number at a place.
-use mathlib.Core.Path.{◌≡◌, refl, sym, ap, subst, ◌∙◌}
-use mathlib.Core.Bool.{Bool, true, false}
-use mathlib.Core.List.{List, [], ◌∷◌}
-use Prim.Native.Nat.{ℕ, suc, ◌+◌, ◌-◌, ◌*◌, ◌≤◌, ◌<◌}
-use native.Mathlib.Numerals.{add-one}
-use native.Mathlib.Omega.{arith}
-use lib.Dec.{eqb, leb}
-use lib.ListN.{length, drop, get_or, drop_of_length-le}
-use lib.Seq.{drop-cons}
-use borrow.Author.Tests.{ne_eqb, leb-true, lt-leb, le-leb}
+use Rattle.std.proofs.Common.{◌≡◌, refl, sym, ap, subst, ◌∙◌, Bool, true, false, Option, Some, None, List, [], ◌∷◌}
+use Rattle.std.proofs.Common.{ℕ, suc, ◌+◌, ◌-◌, ◌*◌, ◌≤◌, ◌<◌, eqb, leb, add-one, arith, ne_eqb, leb-true}
+use Rattle.std.proofs.Common.{length, drop, get_or, drop_of_length-le, drop-cons}
+use Rattle.std.specs.Char.{is_ascii_digit}
+use Rattle.std.proofs.lemmas.Option.{same_Some}
 use Rattle.sets.proofs.Tests.{and_l, and_r}
 use Rattle.dimacs.specs.Reading.{Number, no_number, number, is_digit, digits_from, read_number}
 use Rattle.dimacs.proofs.Choices.{yes_is, no_is}
-use Rattle.graph_read.specs.Read.{most_value, capped, Pushed, DigitsRead, Told}
+use Rattle.graph_read.specs.Read.{most_value, capped, Pushed, DigitsRead, got, Told}
 use Rattle.graph_read.specs.declared.Digits.{Digits}
-use Rattle.graph_read.specs.declared.Field.{Field}
-use Rattle.graph_read.specs.declared.Field.TheVariants.{Got, Nothing}
 
-pub digit_low : (b : ℕ) → b < 48 → false ≡ is_digit b
+-- a digit, by the library's test
+pub digit_is : {r x : Bool} (b : ℕ) → r ≡ is_ascii_digit b → r ≡ x → is_digit b ≡ x
 unfolding is_digit
-digit_low b h = rw (lt-leb 48 b h) refl
-
-pub digit_high : (b : ℕ) → 48 ≤ b → (r : Bool) → r ≡ leb b 57 → r ≡ is_digit b
-unfolding is_digit
-digit_high b h r e = e ∙ rw (le-leb 48 b h) refl
+digit_is b e f = sym e ∙ f
 
 pub digit_small : (b : ℕ) → is_digit b ≡ true → (48 ≤ b) × (b ≤ 57)
 unfolding is_digit
@@ -85,20 +75,20 @@ digits_stop {text} {at} {first} {i} p h t = record {
 }
 
 pub digits_all : {text : List ℕ} {at first i value : ℕ} → SoFar text at first i value → i ≡ length text
-    → DigitsRead text at first (record { value = value; next = i })
+    → DigitsRead text at first (record { value = value; next = length text })
 digits_all {text} {at} {first} {i} p h = record {
   v = p.v;
-  read = p.same ∙ ap (digits_from p.v) none ∙ digits_none p.v ∙ ap (number p.v) (sym none);
+  read = p.same ∙ ap (λ j. digits_from p.v (drop j text)) h ∙ ap (digits_from p.v) none ∙ digits_none p.v ∙ ap (number p.v) (sym none);
   value = p.kept;
   within = omega arith;
 }
   where
-    none : drop i text ≡ []
-    none = let l : length text ≤ i = omega arith in drop_of_length-le text l
+    none : drop (length text) text ≡ []
+    none = let l : length text ≤ length text = omega arith in drop_of_length-le text l
 
 -- the number at a place
 
-pub told_same : (text : List ℕ) (r : Field) {m n : Number} → m ≡ n → Told text n r → Told text m r
+pub told_same : (text : List ℕ) (r : Option Digits) {m n : Number} → m ≡ n → Told text n r → Told text m r
 told_same text r e t = subst (λ x. Told text x r) (sym e) t
 
 number_turn : (b : ℕ) (s : List ℕ) → (b ≡ 48 → ⊥) → is_digit b ≡ true → read_number (b ∷ s) ≡ digits_from (b - 48) s
@@ -121,31 +111,33 @@ unfolding read_number
 number_none = refl
 
 module _ (text : List ℕ) (at : ℕ) where
-  pub told_none : length text ≤ at → Told text (read_number (drop at text)) Nothing
-  told_none h = told_same text Nothing (ap read_number (drop_of_length-le text h) ∙ number_none) refl
+  pub told_none : length text ≤ at → Told text (read_number (drop at text)) None
+  told_none h = told_same text None (ap read_number (drop_of_length-le text h) ∙ number_none) refl
 
   module _ (h : at < length text) where
     -- the byte, taken off
     number_from : read_number (drop at text) ≡ read_number (get_or text at 0 ∷ drop (suc at) text)
     number_from = ap read_number (drop-cons text at 0 h)
 
-    pub told_zero : get_or text at 0 ≡ 48 → Told text (read_number (drop at text)) (Got 0 (at + 1))
+    pub told_zero : get_or text at 0 ≡ 48 → Told text (read_number (drop at text)) (got 0 (at + 1))
     unfolding capped
-    told_zero e = told_same text (Got 0 (at + 1))
+    told_zero e = told_same text (got 0 (at + 1))
         (number_from ∙ ap (λ b. read_number (b ∷ drop (suc at) text)) e ∙ number_zero (drop (suc at) text))
         (record { next = at + 1; is = refl; within = omega arith; rest = rw add-one refl })
 
     pub told_bad : (get_or text at 0 ≡ 48 → ⊥) → is_digit (get_or text at 0) ≡ false
-        → Told text (read_number (drop at text)) Nothing
+        → Told text (read_number (drop at text)) None
     told_bad ne t =
-        told_same text Nothing (number_from ∙ number_bad (get_or text at 0) (drop (suc at) text) ne t) refl
+        told_same text None (number_from ∙ number_bad (get_or text at 0) (drop (suc at) text) ne t) refl
 
-    pub told_digits : {d : Digits} → (get_or text at 0 ≡ 48 → ⊥) → is_digit (get_or text at 0) ≡ true
-        → DigitsRead text (at + 1) (get_or text at 0 - 48) d
-        → Told text (read_number (drop at text)) (Got d.value d.next)
-    told_digits {d} ne t r = told_same text (Got d.value d.next)
+    pub told_digits : {first : ℕ} {d : Digits} → (get_or text at 0 ≡ 48 → ⊥) → is_digit (get_or text at 0) ≡ true
+        → first ≡ get_or text at 0 - 48 → DigitsRead text (at + 1) first d
+        → Told text (read_number (drop at text)) (Some d)
+    told_digits {first} {d} ne t f q =
+        let r = subst (λ i. DigitsRead text (at + 1) i d) f q in
+        told_same text (Some d)
         (number_from ∙ number_turn (get_or text at 0) (drop (suc at) text) ne t ∙ rw add-one at r.read)
-        (record { next = d.next; is = ap (λ x. Got x d.next) r.value; within = r.within; rest = refl })
+        (record { next = d.next; is = ap (λ x. got x d.next) r.value; within = r.within; rest = refl })
 
 -- a number that was told
 pub record Read (text : List ℕ) (m : Number) (value next : ℕ) : Type 0 where
@@ -154,14 +146,14 @@ pub record Read (text : List ℕ) (m : Number) (value next : ℕ) : Type 0 where
   pub value_is : value ≡ capped v
   pub within : next ≤ length text
 
-same_next : {v w i j : ℕ} → Got v i ≡ Got w j → j ≡ i
-same_next e = cc
+same_next : {v w i j : ℕ} → got v i ≡ got w j → j ≡ i
+same_next e = ap (λ (d : Digits). d.next) (sym (same_Some _ _ e))
 
-same_value : {v w i j : ℕ} → Got v i ≡ Got w j → v ≡ w
-same_value e = cc
+same_value : {v w i j : ℕ} → got v i ≡ got w j → v ≡ w
+same_value e = ap (λ (d : Digits). d.value) (same_Some _ _ e)
 
-told_read : (text : List ℕ) (value next : ℕ) (m : Number) → Told text m (Got value next) → Read text m value next
-told_read text value next no_number t = let z : ◌≡◌ {A = ℕ} 0 1 = cc in absurd (omega arith)
+told_read : (text : List ℕ) (value next : ℕ) (m : Number) → Told text m (got value next) → Read text m value next
+told_read text value next no_number t = cc
 told_read text value next (number v s) t = record {
   v = v;
   is = ap (number v) (t.rest ∙ ap (λ j. drop j text) (same_next t.is));
@@ -169,13 +161,13 @@ told_read text value next (number v s) t = record {
   within = let e = same_next t.is in omega (arith, t.within);
 }
 
-pub told_got : {text : List ℕ} {m : Number} {f : Field} {value next : ℕ} → f ≡ Got value next → Told text m f
-    → Read text m value next
-told_got {text} {m} {f} {value} {next} e t = told_read text value next m (subst (Told text m) e t)
+pub told_got : {text : List ℕ} {m : Number} {f : Option Digits} {d : Digits} → f ≡ Some d → Told text m f
+    → Read text m d.value d.next
+told_got {text} {m} {f} {d} e t = told_read text d.value d.next m (subst (Told text m) e t)
 
-told_no : (text : List ℕ) (m : Number) → Told text m Nothing → m ≡ no_number
+told_no : (text : List ℕ) (m : Number) → Told text m None → m ≡ no_number
 told_no text no_number t = refl
-told_no text (number v s) t = let q = t.is in let z : ◌≡◌ {A = ℕ} 0 1 = cc in absurd (omega arith)
+told_no text (number v s) t = let q = t.is in cc
 
-pub told_nothing : (text : List ℕ) (m : Number) {f : Field} → f ≡ Nothing → Told text m f → m ≡ no_number
+pub told_nothing : (text : List ℕ) (m : Number) {f : Option Digits} → f ≡ None → Told text m f → m ≡ no_number
 told_nothing text m e t = told_no text m (subst (Told text m) e t)

@@ -1,12 +1,8 @@
 -- What a reader hands back of a text, by the place where the rest of it begins.
-use Rattle.std.specs.Prelude.{◌≡◌, Bool, true, false, List, [], ℕ, ◌+◌, ◌*◌, ◌≤◌, ◌<◌, min, length, take, drop}
-use Rattle.dimacs.specs.Reading.{Number, no_number, number, digits_from, field}
+use Rattle.std.specs.Prelude.{◌≡◌, Bool, true, Option, Some, None, List, ℕ, ◌+◌, ◌*◌, ◌≤◌, ◌<◌, min, length, take, drop}
+use Rattle.dimacs.specs.Reading.{Number, no_number, number, digits_from}
 use Rattle.dimacs.specs.Reading.{vertices_of, count_fits, CountList, no_counts, counts}
-use Rattle.graph_read.specs.declared.CountsRead.{CountsRead}
-use Rattle.graph_read.specs.declared.CountsRead.TheVariants.{Links, Malformed}
 use Rattle.graph_read.specs.declared.Digits.{Digits}
-use Rattle.graph_read.specs.declared.Field.{Field}
-use Rattle.graph_read.specs.declared.Field.TheVariants.{Got, Nothing}
 
 -- a number as the code keeps it: numbers from 10 ^ 19 on are all alike, since no text has so many lines
 abbrev pub most_value : ℕ
@@ -27,23 +23,21 @@ pub record DigitsRead (text : List ℕ) (at first : ℕ) (r : Digits) : Type 0 w
   pub value : r.value ≡ capped v
   pub within : r.next ≤ length text
 
+-- a number that was read
+abbrev pub got : ℕ → ℕ → Option Digits
+got value next = Some (record { value = value; next = next })
+
 -- r is the number v, with the rest s of the text after it
-pub record Found (text : List ℕ) (v : ℕ) (s : List ℕ) (r : Field) : Type 0 where
+pub record Found (text : List ℕ) (v : ℕ) (s : List ℕ) (r : Option Digits) : Type 0 where
   pub next : ℕ
-  pub is : r ≡ Got (capped v) next
+  pub is : r ≡ got (capped v) next
   pub within : next ≤ length text
   pub rest : s ≡ drop next text
 
 -- r tells what a reader found in a text
-abbrev pub Told : List ℕ → Number → Field → Type 0
-Told text no_number r = r ≡ Nothing
+abbrev pub Told : List ℕ → Number → Option Digits → Type 0
+Told text no_number r = r ≡ None
 Told text (number v s) r = Found text v s r
-
--- r says whether the word stands at `at`: then a field of it is one without a word after it, and else there is none
-pub record WordRead (text : List ℕ) (at : ℕ) (word : List ℕ) (r : Bool) : Type 0 where
-  pub there : r ≡ true → (at + length word ≤ length text)
-      × ((end : ℕ) → field word end (drop at text) ≡ field [] end (drop (at + length word) text))
-  pub not_there : r ≡ false → (end : ℕ) → field word end (drop at text) ≡ no_number
 
 -- r says whether a count may follow counts cs, of which there are k and which sum to `total`, where the code has
 -- `count` for it
@@ -52,6 +46,6 @@ pub record Fits (k total count : ℕ) (r : Bool) : Type 0 where
   pub small : r ≡ true → (k < 64) × (total + count ≤ 512)
 
 -- r tells the counts that were read, which are the first in `out`
-abbrev pub CountsTold : CountList → List ℕ → CountsRead → Type 0
-CountsTold no_counts out r = r ≡ Malformed
-CountsTold (counts cs) out r = (r ≡ Links (length cs)) × (take (length cs) out ≡ cs) × (length cs ≤ length out)
+abbrev pub CountsTold : CountList → List ℕ → Option ℕ → Type 0
+CountsTold no_counts out r = r ≡ None
+CountsTold (counts cs) out r = (r ≡ Some (length cs)) × (take (length cs) out ≡ cs) × (length cs ≤ length out)

@@ -5,21 +5,22 @@ ghost use Rattle.vset.specs.Words.{has};
 ghost use Rattle.dimacs.specs.Reading.{edge_line, clashes, edges_from, edges_of};
 ghost use Rattle.graph_read.specs.Graphs.{CodesFit, EdgesFit, LayersTold, IsVertex, LineTold, EdgesTold, OfLines};
 
-use crate::{Field, read_field};
+use crate::read_field;
 use vset::{contains, insert};
 
-// An edge by its vertices from 0, and the place after its line, or none.
+// An edge by its vertices from 0, and the place after its line.
 #[derive(Clone, Copy)]
-pub enum EdgeLine {
-    Edge { u: usize, v: usize, next: usize },
-    NoEdge,
+pub struct Edge {
+    pub u: usize,
+    pub v: usize,
+    pub next: usize,
 }
 
-// The `e` lines: how many, and whether one is inside a link or repeated; or that one is malformed.
+// The `e` lines: how many, and whether one is inside a link or repeated.
 #[derive(Clone, Copy)]
-pub enum EdgesRead {
-    Lines { count: usize, clash: bool },
-    BadLines,
+pub struct EdgeLines {
+    pub count: usize,
+    pub clash: bool,
 }
 
 // Whether a number that was read is a vertex.
@@ -27,55 +28,36 @@ fn is_vertex(n: usize, value: usize) -> bool
     requires { n ≤ 512 }
     ensures { IsVertex n value result }
 {
-    if value == 0 {
-        return false;
-    }
-    value <= n
+    value != 0 && value <= n
 }
 
 // The `e` line at a place.
-fn read_edge(text: &[u8], at: usize, n: usize) -> EdgeLine
+fn read_edge(text: &[u8], at: usize, n: usize) -> Option<Edge>
     requires { (at < length text.now) × (n ≤ 512) }
     ensures { LineTold text.now at n (edge_line n (drop at text.now)) result }
 {
-    let f = read_field(text, at, b"e ", b' ');
-    let Field::Got {
-        value: u,
-        next: gap,
-    } = f
-    else {
-        return EdgeLine::NoEdge;
-    };
-    let g = read_field(text, gap, b"", b'\n');
-    let Field::Got {
-        value: v,
-        next: end,
-    } = g
-    else {
-        return EdgeLine::NoEdge;
-    };
-    if !is_vertex(n, u) {
-        return EdgeLine::NoEdge;
+    let u = read_field(text, at, b"e ", b' ')?;
+    let v = read_field(text, u.next, b"", b'\n')?;
+    if !is_vertex(n, u.value) {
+        return None;
     }
-    if !is_vertex(n, v) {
-        return EdgeLine::NoEdge;
+    if !is_vertex(n, v.value) {
+        return None;
     }
-    EdgeLine::Edge {
-        u: u - 1,
-        v: v - 1,
-        next: end,
-    }
+    Some(Edge {
+        u: u.value - 1,
+        v: v.value - 1,
+        next: v.next,
+    })
 }
 
 // Whether u and v are joined, either way round.
+#[tactic(auto, using(crate::proofs::EdgeLines::code_few))]
 pub fn is_joined(codes: &[u64], n: usize, u: usize, v: usize) -> bool
     requires { CodesFit n (length codes.now) × (u < n) × (v < n) }
     ensures { result ≡ (has codes.now (u * n + v) || has codes.now (v * n + u)) }
 {
-    if contains(codes, u * n + v) {
-        return true;
-    }
-    contains(codes, v * n + u)
+    contains(codes, u * n + v) || contains(codes, v * n + u)
 }
 
 // Whether an edge is inside a link or repeated.
@@ -84,24 +66,17 @@ fn is_clash(layers: &[u8], n: usize, codes: &[u64], u: usize, v: usize) -> bool
     ensures { (cs : List ℕ) → LayersTold cs n layers.now
         → result ≡ clashes cs (has codes.now) u v }
 {
-    if layers[u] == layers[v] {
-        return true;
-    }
-    is_joined(codes, n, u, v)
-}
-
-// Whether one of two holds.
-fn either(a: bool, b: bool) -> bool
-    ensures { result ≡ (a || b) }
-{
-    if a {
-        return true;
-    }
-    b
+    layers[u] == layers[v] || is_joined(codes, n, u, v)
 }
 
 // The `e` lines from a place to the end, over n vertices whose links are in the table.
-fn read_edges(text: &[u8], at: usize, layers: &[u8], n: usize, codes: &mut [u64]) -> EdgesRead
+fn read_edges(
+    text: &[u8],
+    at: usize,
+    layers: &[u8],
+    n: usize,
+    codes: &mut [u64],
+) -> Option<EdgeLines>
     requires { (at ≤ length text.now) × EdgesFit n (length layers.now) (length codes.old)
         × (has codes.old ≡ nothing) }
     ensures { (cs : List ℕ) → LayersTold cs n layers.now
@@ -112,51 +87,33 @@ fn read_edges(text: &[u8], at: usize, layers: &[u8], n: usize, codes: &mut [u64]
     let mut clash = false;
     let mut place = at;
     while place < text.len() {
-        let e = read_edge(text, place, n);
-        let EdgeLine::Edge { u, v, next } = e else {
-            return EdgesRead::BadLines;
-        };
-        clash = either(clash, is_clash(layers, n, codes, u, v));
-        insert(codes, u * n + v);
+        let e = read_edge(text, place, n)?;
+        clash |= is_clash(layers, n, codes, e.u, e.v);
+        insert(codes, e.u * n + e.v);
         count += 1;
-        place = next;
+        place = e.next;
     }
-    EdgesRead::Lines { count, clash }
+    Some(EdgeLines { count, clash })
 }
 
 // What was read, if it is so many lines.
-fn of_lines(m: usize, e: EdgesRead) -> EdgesRead
+fn of_lines(m: usize, e: Option<EdgeLines>) -> Option<EdgeLines>
     ensures { OfLines m e result }
 {
-    let EdgesRead::Lines { count, clash } = e else {
-        return EdgesRead::BadLines;
-    };
-    if count != m {
-        return EdgesRead::BadLines;
-    }
-    EdgesRead::Lines { count, clash }
+    let lines = e?;
+    (lines.count == m).then_some(lines)
 }
 
 // The graph text, over n vertices whose links are in the table.
-pub fn read_graph(text: &[u8], layers: &[u8], n: usize, codes: &mut [u64]) -> EdgesRead
+pub fn read_graph(text: &[u8], layers: &[u8], n: usize, codes: &mut [u64]) -> Option<EdgeLines>
     requires { EdgesFit n (length layers.now) (length codes.old) × (has codes.old ≡ nothing) }
     ensures { (cs : List ℕ) → LayersTold cs n layers.now
         → EdgesTold (edges_of cs text.now) codes.new result }
 {
-    let f = read_field(text, 0, b"p edge ", b' ');
-    let Field::Got { value, next } = f else {
-        return EdgesRead::BadLines;
-    };
-    if value != n {
-        return EdgesRead::BadLines;
+    let head = read_field(text, 0, b"p edge ", b' ')?;
+    if head.value != n {
+        return None;
     }
-    let g = read_field(text, next, b"", b'\n');
-    let Field::Got {
-        value: m,
-        next: start,
-    } = g
-    else {
-        return EdgesRead::BadLines;
-    };
-    of_lines(m, read_edges(text, start, layers, n, codes))
+    let m = read_field(text, head.next, b"", b'\n')?;
+    of_lines(m.value, read_edges(text, m.next, layers, n, codes))
 }

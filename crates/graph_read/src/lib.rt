@@ -6,14 +6,14 @@
 mod edges;
 mod links;
 
-ghost use Rattle.std.specs.Prelude.{◌≡◌, [], ◌+◌, ◌*◌, ◌≤◌, ◌<◌, length, take, drop};
-ghost use Rattle.dimacs.specs.Reading.{Number, is_digit, read_number, ended_by, field, counts_from};
+ghost use Rattle.std.specs.Prelude.{◌≡◌, Some, [], ◌+◌, ◌*◌, ◌≤◌, ◌<◌, length, take, drop};
+ghost use Rattle.dimacs.specs.Reading.{Number, read_number, ended_by, field, counts_from};
 ghost use Rattle.dimacs.specs.Reading.{edges_of, texts_over, texts_of};
-ghost use Rattle.graph_read.specs.Read.{most_value, Pushed, DigitsRead, Told, WordRead, Fits, CountsTold};
+ghost use Rattle.graph_read.specs.Read.{most_value, Pushed, DigitsRead, Told, Fits, CountsTold};
 ghost use Rattle.graph_read.specs.Graphs.{Links, TextsOf, TextsTold};
 
 pub use edges::is_joined;
-use edges::{EdgesRead, read_graph};
+use edges::{EdgeLines, read_graph};
 use links::{fill_layers, first_of};
 
 // A number that was read: its value, as far as it can matter, and the place after it.
@@ -23,37 +23,18 @@ pub struct Digits {
     pub next: usize,
 }
 
-// The same, or none.
+// The links and the vertices of a graph.
 #[derive(Clone, Copy)]
-pub enum Field {
-    Got { value: usize, next: usize },
-    Nothing,
+pub struct GraphSizes {
+    pub links: usize,
+    pub vertices: usize,
 }
 
-// The counts of a text: how many, or that it is malformed.
-#[derive(Clone, Copy)]
-pub enum CountsRead {
-    Links(usize),
+// Why there is no graph: one of the texts is malformed, or an edge is inside a link or repeated.
+#[derive(Clone, Copy, Debug, PartialEq, Eq)]
+pub enum TextsRefusal {
     Malformed,
-}
-
-// Both texts: the graph of k links and n vertices, an edge inside a link or repeated, or that one of the texts is
-// malformed.
-#[derive(Clone, Copy)]
-pub enum TextsRead {
-    Graph { k: usize, n: usize },
     Clashing,
-    BadTexts,
-}
-
-// Whether a byte is a digit.
-fn is_digit(b: u8) -> bool
-    ensures { result ≡ is_digit b }
-{
-    if b < 48 {
-        return false;
-    }
-    b <= 57
 }
 
 // The value with a digit more; no text has as many lines as the most.
@@ -73,90 +54,65 @@ fn read_digits(text: &[u8], at: usize, first: usize) -> Digits
     ensures { DigitsRead text.now at first result }
 {
     let mut value = first;
-    let mut i = at;
-    while i < text.len() {
+    for i in at..text.len() {
         let b = text[i];
-        if !is_digit(b) {
+        if !b.is_ascii_digit() {
             return Digits { value, next: i };
         }
-        value = push(value, (b - 48) as usize);
-        i += 1;
+        value = push(value, usize::from(b - b'0'));
     }
-    Digits { value, next: i }
+    Digits {
+        value,
+        next: text.len(),
+    }
 }
 
 // The number at a place: 0, or digits of which the first is another.
-fn read_number(text: &[u8], at: usize) -> Field
+fn read_number(text: &[u8], at: usize) -> Option<Digits>
     ensures { Told text.now (read_number (drop at text.now)) result }
 {
     if at >= text.len() {
-        return Field::Nothing;
+        return None;
     }
     let b = text[at];
-    if b == 48 {
-        return Field::Got {
+    if b == b'0' {
+        return Some(Digits {
             value: 0,
             next: at + 1,
-        };
+        });
     }
-    if !is_digit(b) {
-        return Field::Nothing;
+    if !b.is_ascii_digit() {
+        return None;
     }
-    let d = read_digits(text, at + 1, (b - 48) as usize);
-    Field::Got {
+    Some(read_digits(text, at + 1, usize::from(b - b'0')))
+}
+
+// The number that was read, if a byte follows it.
+fn ended_by(text: &[u8], d: Digits, end: u8) -> Option<Digits>
+    ensures { (m : Number) → Told text.now m (Some d) → Told text.now (ended_by end m) result }
+{
+    if d.next >= text.len() {
+        return None;
+    }
+    if text[d.next] != end {
+        return None;
+    }
+    Some(Digits {
         value: d.value,
-        next: d.next,
-    }
-}
-
-// Whether a word stands at a place.
-fn has_word(text: &[u8], at: usize, word: &[u8]) -> bool
-    requires { at ≤ length text.now }
-    ensures { WordRead text.now at word.now result }
-{
-    let mut i = 0;
-    while i < word.len() {
-        let place = at + i;
-        if place >= text.len() {
-            return false;
-        }
-        if text[place] != word[i] {
-            return false;
-        }
-        i += 1;
-    }
-    true
-}
-
-// What was read, if a byte follows it.
-fn ended_by(text: &[u8], f: Field, end: u8) -> Field
-    ensures { (m : Number) → Told text.now m f → Told text.now (ended_by end m) result }
-{
-    let Field::Got { value, next } = f else {
-        return Field::Nothing;
-    };
-    if next >= text.len() {
-        return Field::Nothing;
-    }
-    if text[next] != end {
-        return Field::Nothing;
-    }
-    Field::Got {
-        value,
-        next: next + 1,
-    }
+        next: d.next + 1,
+    })
 }
 
 // A word, a number right after it, and the byte that ends it.
-fn read_field(text: &[u8], at: usize, word: &[u8], end: u8) -> Field
+fn read_field(text: &[u8], at: usize, word: &[u8], end: u8) -> Option<Digits>
     requires { at ≤ length text.now }
     ensures { Told text.now (field word.now end (drop at text.now)) result }
 {
-    if !has_word(text, at, word) {
-        return Field::Nothing;
+    if !text[at..].starts_with(word) {
+        return None;
     }
-    let f = read_number(text, at + word.len());
-    ended_by(text, f, end)
+    let d = read_number(text, at + word.len())?;
+    ended_by(text, d, end)
 }
 
 // Whether a count may follow k counts that sum to `total`.
@@ -164,17 +120,11 @@ fn count_fits(k: usize, total: usize, count: usize) -> bool
     requires { total ≤ 512 }
     ensures { Fits k total count result }
 {
-    if k >= 64 {
-        return false;
-    }
-    if count == 0 {
-        return false;
-    }
-    count <= 512 - total
+    k < 64 && count != 0 && count <= 512 - total
 }
 
 // The counts, one a line to the end.
-fn read_counts(text: &[u8], counts: &mut [u64]) -> CountsRead
+fn read_counts(text: &[u8], counts: &mut [u64]) -> Option<usize>
     requires { length counts.old ≡ 64 }
     ensures { CountsTold (counts_from (length text.now + 1) [] text.now)
         counts.new result }
@@ -183,36 +133,39 @@ fn read_counts(text: &[u8], counts: &mut [u64]) -> CountsRead
     let mut total: usize = 0;
     let mut at = 0;
     while at < text.len() {
-        let f = read_field(text, at, b"", b'\n');
-        let Field::Got { value, next } = f else {
-            return CountsRead::Malformed;
-        };
-        if !count_fits(k, total, value) {
-            return CountsRead::Malformed;
+        let line = read_field(text, at, b"", b'\n')?;
+        if !count_fits(k, total, line.value) {
+            return None;
         }
-        counts[k] = value as u64;
+        counts[k] = line.value as u64;
         k += 1;
-        total += value;
-        at = next;
+        total += line.value;
+        at = line.next;
     }
-    CountsRead::Links(k)
+    Some(k)
 }
 
 // What the lines of a graph say.
-fn texts_of(e: EdgesRead, k: usize, n: usize) -> TextsRead
-    ensures { TextsOf k n e result }
+fn texts_of(e: Option<EdgeLines>, links: usize, vertices: usize) -> Result<GraphSizes, TextsRefusal>
+    ensures { TextsOf links vertices e result }
 {
-    let EdgesRead::Lines { count, clash } = e else {
-        return TextsRead::BadTexts;
+    let Some(lines) = e else {
+        return Err(TextsRefusal::Malformed);
     };
-    if clash {
-        return TextsRead::Clashing;
+    if lines.clash {
+        return Err(TextsRefusal::Clashing);
     }
-    TextsRead::Graph { k, n }
+    Ok(GraphSizes { links, vertices })
 }
 
 // The graph text, after the counts of k links, with words for the table of links.
-fn read_by(text: &[u8], counts: &[u64], k: usize, layers: &mut [u8], codes: &mut [u64]) -> TextsRead
+fn read_by(
+    text: &[u8],
+    counts: &[u64],
+    k: usize,
+    layers: &mut [u8],
+    codes: &mut [u64],
+) -> Result<GraphSizes, TextsRefusal>
     requires { Links counts.now k × (length layers.old ≡ 512) × (length codes.old ≡ 4096) }
     ensures { TextsTold
         (texts_over (take k counts.now) (edges_of (take k counts.now) text.now))
@@ -226,7 +179,12 @@ fn read_by(text: &[u8], counts: &[u64], k: usize, layers: &mut [u8], codes: &mut
 }
 
 // The same, with a table of its own.
-fn read_over(text: &[u8], counts: &[u64], k: usize, codes: &mut [u64]) -> TextsRead
+fn read_over(
+    text: &[u8],
+    counts: &[u64],
+    k: usize,
+    codes: &mut [u64],
+) -> Result<GraphSizes, TextsRefusal>
     requires { Links counts.now k × (length codes.old ≡ 4096) }
     ensures { TextsTold
         (texts_over (take k counts.now) (edges_of (take k counts.now) text.now))
@@ -237,17 +195,21 @@ fn read_over(text: &[u8], counts: &[u64], k: usize, codes: &mut [u64]) -> TextsR
 }
 
 // Both texts. The counts and the codes of the edges are left in the words lent.
-pub fn read_texts(text: &[u8], sizes: &[u8], counts: &mut [u64], codes: &mut [u64]) -> TextsRead
+pub fn read_texts(
+    text: &[u8],
+    sizes: &[u8],
+    counts: &mut [u64],
+    codes: &mut [u64],
+) -> Result<GraphSizes, TextsRefusal>
     requires { (length counts.old ≡ 64) × (length codes.old ≡ 4096) }
     ensures { TextsTold (texts_of text.now sizes.now)
         counts.new codes.new result }
 {
-    let c = read_counts(sizes, counts);
-    let CountsRead::Links(k) = c else {
-        return TextsRead::BadTexts;
+    let Some(k) = read_counts(sizes, counts) else {
+        return Err(TextsRefusal::Malformed);
     };
     if k == 0 {
-        return TextsRead::BadTexts;
+        return Err(TextsRefusal::Malformed);
     }
     read_over(text, counts, k, codes)
 }

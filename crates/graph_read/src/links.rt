@@ -10,10 +10,8 @@ pub fn first_of(counts: &[u64], k: usize, l: usize) -> usize
     ensures { result ≡ first_of (take k counts.now) l }
 {
     let mut first: usize = 0;
-    let mut i = 0;
-    while i < l {
-        first += counts[i] as usize;
-        i += 1;
+    for count in &counts[..l] {
+        first += *count as usize;
     }
     first
 }
@@ -23,15 +21,12 @@ fn layer_by(counts: &[u64], k: usize, n: usize, v: usize) -> usize
     requires { Links counts.now k × (n ≡ first_of (take k counts.now) k) }
     ensures { result ≡ layer_by (take k counts.now) k v }
 {
-    let mut l = k;
     let mut first = n;
-    while l > 0 {
-        let m = l - 1;
-        first -= counts[m] as usize;
+    for l in (0..k).rev() {
+        first -= counts[l] as usize;
         if first <= v {
-            return m;
+            return l;
         }
-        l = m;
     }
     0
 }
@@ -42,9 +37,7 @@ pub fn fill_layers(counts: &[u64], k: usize, n: usize, layers: &mut [u8])
     ensures { layers.new
         ≡ tabulate (length layers.old) (layer_by (take k counts.now) k) }
 {
-    let mut v = 0;
-    while v < layers.len() {
-        layers[v] = layer_by(counts, k, n, v) as u8;
-        v += 1;
+    for (v, layer) in layers.iter_mut().enumerate() {
+        *layer = layer_by(counts, k, n, v) as u8;
     }
 }

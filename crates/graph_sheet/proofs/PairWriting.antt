@@ -1,4 +1,5 @@
 -- The pair rows of a sheet, as they are put: position by position of the first link, and of the second.
+use Rattle.std.proofs.Common.{Option, is_some, unwrap_or}
 use mathlib.Core.Path.{◌≡◌, refl, sym, ap, ◌∙◌}
 use mathlib.Core.Bool.{Bool, true, false, cond}
 use mathlib.Core.List.{List, [], ◌∷◌, ◌++◌, append-nil, append_assoc}
@@ -6,8 +7,9 @@ use Prim.Native.Nat.{ℕ, zero, suc, ◌+◌, ◌*◌, ◌/◌, ◌%◌, ◌<◌
 use native.Mathlib.Numerals.{add-one}
 use native.Mathlib.Omega.{arith}
 use lib.ListN.{length}
-use Rattle.output.specs.Output.{Wrote}
-use Rattle.output.proofs.Wrote.{wrote_none, wrote_same}
+use Rattle.output.specs.declared.Output.{Output}
+use Rattle.output.specs.Puts.{Puts}
+use Rattle.output.proofs.Puts.{puts_none, puts_same}
 use Rattle.wire.specs.Fields.{bytes16}
 use Rattle.dimacs.specs.Lists.{select, for_each, join_to}
 use Rattle.dimacs.specs.Reading.{count_of}
@@ -16,7 +18,6 @@ use Rattle.dimacs.proofs.Lists.{each_select}
 use Rattle.dimacs.proofs.Codes.{code_first, code_second, row_after}
 use Rattle.graph_sheet.specs.Rows.{pair_row_in, pair_rows_in, pair_rows_at}
 use Rattle.graph_sheet.specs.Pairs.{TwoOf, joined_in, joined_at, pairs_in, RuleTold}
-use Rattle.graph_sheet.specs.declared.joins.RuleAt.{RuleAt}
 use Rattle.graph_sheet.specs.declared.joins.Two.{Two}
 use Rattle.graph_sheet.proofs.Pairing.{code_joined, pairs_same}
 use Rattle.graph_sheet.proofs.Ruling.{place_of, total_is, pairs_row_is}
@@ -24,20 +25,20 @@ use Rattle.graph_sheet.proofs.Writing.{put_yes, put_no, cond_same}
 
 -- one pair row
 module _ (adj : ℕ → ℕ → Bool) (p : Two) (x y : ℕ) where
-  pub pair_no : {r : Bool} (o : List ℕ) (at : ℕ) → r ≡ joined_in adj p x y → r ≡ false
-      → Wrote (pair_row_in adj p x y) o at o at
+  pub pair_no : {r : Bool} (o : Output) → r ≡ joined_in adj p x y → r ≡ false
+      → Puts (pair_row_in adj p x y) o o
   unfolding pair_row_in
-  pair_no o at e n = put_no (bytes16 x ++ bytes16 y) o at (sym e ∙ n)
+  pair_no o e n = put_no (bytes16 x ++ bytes16 y) o (sym e ∙ n)
 
-  pub pair_yes : {r : Bool} {o q : List ℕ} {at i : ℕ} → r ≡ joined_in adj p x y → r ≡ true
-      → Wrote (bytes16 x ++ bytes16 y) o at q i → Wrote (pair_row_in adj p x y) o at q i
+  pub pair_yes : {r : Bool} {o q : Output} → r ≡ joined_in adj p x y → r ≡ true
+      → Puts (bytes16 x ++ bytes16 y) o q → Puts (pair_row_in adj p x y) o q
   unfolding pair_row_in
   pair_yes e t w = put_yes (bytes16 x ++ bytes16 y) (sym e ∙ t) w
 
-pub row_put : (adj : ℕ → ℕ → Bool) (p : Two) (x y : ℕ) {o q : List ℕ} {at i : ℕ} → y ≡ p.width
-    → Wrote (join_to y (pair_row_in adj p x)) o at q i → Wrote (pair_rows_in adj p x) o at q i
+pub row_put : (adj : ℕ → ℕ → Bool) (p : Two) (x y : ℕ) {o q : Output} → y ≡ p.width
+    → Puts (join_to y (pair_row_in adj p x)) o q → Puts (pair_rows_in adj p x) o q
 unfolding pair_rows_in
-row_put adj p x y e w = wrote_same (ap (λ i. join_to i (pair_row_in adj p x)) e) w
+row_put adj p x y e w = puts_same (ap (λ i. join_to i (pair_row_in adj p x)) e) w
 
 -- rows of w pieces, one after another
 
@@ -90,9 +91,9 @@ module _ (adj : ℕ → ℕ → Bool) (p : Two) where
       join_rows p.count p.width row (pair_row_in adj p) pair_code
       ∙ each_join (p.count * p.width) (pair_row p.width) (joined_at adj p)
 
-  pub joined_put : (x : ℕ) {o q : List ℕ} {at e : ℕ} → x ≡ p.count → Wrote (join_to x (pair_rows_in adj p)) o at q e
-      → Wrote (for_each (pair_row p.width) (pairs_in adj p)) o at q e
-  joined_put x h a = wrote_same (ap (λ i. join_to i (pair_rows_in adj p)) h ∙ rows_are) a
+  pub joined_put : (x : ℕ) {o q : Output} → x ≡ p.count → Puts (join_to x (pair_rows_in adj p)) o q
+      → Puts (for_each (pair_row p.width) (pairs_in adj p)) o q
+  joined_put x h a = puts_same (ap (λ i. join_to i (pair_rows_in adj p)) h ∙ rows_are) a
 
 none_empty_lem : (f : ℕ → List ℕ) (l : List ℕ) → length l ≡ 0 → for_each f l ≡ []
 unfolding for_each
@@ -100,41 +101,41 @@ none_empty_lem f [] e = refl
 none_empty_lem f (x ∷ l) e = absurd (omega arith)
 
 module _ (cs : List ℕ) (adj : ℕ → ℕ → Bool) where
-  module _ (z : ℕ) {r : RuleAt} (R : RuleTold cs adj z r) where
-    pub pairs_at_no : (o : List ℕ) (at : ℕ) → r.ruled ≡ false → Wrote (pair_rows_at cs adj z) o at o at
+  module _ (z : ℕ) {r : Option ℕ} (R : RuleTold cs adj z r) where
+    pub pairs_at_no : (o : Output) → is_some r ≡ false → Puts (pair_rows_at cs adj z) o o
     unfolding pair_rows_at
-    pairs_at_no o at n = put_no _ o at (sym R.ruled ∙ n)
+    pairs_at_no o n = put_no _ o (sym R.ruled ∙ n)
 
-    pub pairs_at_none : (o : List ℕ) (at : ℕ) → r.ruled ≡ true → r.pairs ≡ 0 → Wrote (pair_rows_at cs adj z) o at o at
+    pub pairs_at_none : (o : Output) → is_some r ≡ true → unwrap_or r 0 ≡ 0 → Puts (pair_rows_at cs adj z) o o
     unfolding pair_rows_at
-    pairs_at_none o at y n =
+    pairs_at_none o y n =
         put_yes _ (sym R.ruled ∙ y)
-        (wrote_same (sym (none_empty_lem _ _ (sym (R.pairs y) ∙ n))) (wrote_none o at))
+        (puts_same (sym (none_empty_lem _ _ (sym (R.pairs y) ∙ n))) (puts_none o))
 
-    pub pairs_at_yes : (k : ℕ) {p : Two} {o q : List ℕ} {at i : ℕ} → k ≡ length cs → r.ruled ≡ true
-        → TwoOf cs (z / k) (z % k) p → Wrote (for_each (pair_row p.width) (pairs_in adj p)) o at q i
-        → Wrote (pair_rows_at cs adj z) o at q i
+    pub pairs_at_yes : (k : ℕ) {p : Two} {o q : Output} → k ≡ length cs → is_some r ≡ true
+        → TwoOf cs (z / k) (z % k) p → Puts (for_each (pair_row p.width) (pairs_in adj p)) o q
+        → Puts (pair_rows_at cs adj z) o q
     unfolding pair_rows_at
     pairs_at_yes k {p} e y T w =
         put_yes _ (sym R.ruled ∙ y)
-        (wrote_same
+        (puts_same
         (ap (λ x. for_each (pair_row x) (pairs_in adj p)) T.width
         ∙ ap (for_each (pair_row (count_of cs (z % k)))) (pairs_same cs adj T)
         ∙ ap (λ x. for_each (pair_row (count_of cs (z % x))) (pairs_of cs adj (z / x) (z % x))) e)
         w)
 
   -- the pair rows of a code are those of its place
-  pub pairs_row_put : (z : ℕ) {o q : List ℕ} {at i : ℕ} → z < length cs * length cs
-      → Wrote (pair_rows_at cs adj z) o at q i
-      → Wrote (cond (is_ruled cs adj z) (rule_pair_rows cs adj (place_of cs adj z)) []) o at q i
+  pub pairs_row_put : (z : ℕ) {o q : Output} → z < length cs * length cs
+      → Puts (pair_rows_at cs adj z) o q
+      → Puts (cond (is_ruled cs adj z) (rule_pair_rows cs adj (place_of cs adj z)) []) o q
   unfolding pair_rows_at
-  pairs_row_put z h w = wrote_same (cond_same (is_ruled cs adj z) _ _ (λ y. sym (pairs_row_is cs adj z h y))) w
+  pairs_row_put z h w = puts_same (cond_same (is_ruled cs adj z) _ _ (λ y. sym (pairs_row_is cs adj z h y))) w
 
   -- all pair rows
-  pub pairs_put : (k : ℕ) {o q : List ℕ} {at i : ℕ} → k ≡ length cs
-      → Wrote (join_to (place_of cs adj (k * k)) (rule_pair_rows cs adj)) o at q i → Wrote (pair_rows cs adj) o at q i
+  pub pairs_put : (k : ℕ) {o q : Output} → k ≡ length cs
+      → Puts (join_to (place_of cs adj (k * k)) (rule_pair_rows cs adj)) o q → Puts (pair_rows cs adj) o q
   unfolding pair_rows
   pairs_put k e w =
-      wrote_same
+      puts_same
       (ap (λ x. join_to x (rule_pair_rows cs adj)) (ap (λ x. place_of cs adj (x * x)) e ∙ sym (total_is cs adj)))
       w

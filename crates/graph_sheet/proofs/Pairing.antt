@@ -1,6 +1,9 @@
 -- The pairs that join two links, counted row by row.
+use Rattle.std.proofs.Common.{None}
+use Rattle.std.specs.Bool.{then_some}
+use Rattle.std.specs.Int.{from_bool}
 use mathlib.Core.Path.{◌≡◌, refl, sym, ap, subst, ◌∙◌}
-use mathlib.Core.Bool.{Bool, false, not, ◌&&◌, ◌||◌}
+use mathlib.Core.Bool.{Bool, true, false, not, ◌&&◌, ◌||◌}
 use mathlib.Core.List.{List}
 use Prim.Native.Nat.{ℕ, ◌+◌, ◌*◌, ◌/◌, ◌%◌, ◌≤◌, ◌<◌}
 use native.Mathlib.Numerals.{add-one}
@@ -23,7 +26,7 @@ use Rattle.graph_read.specs.Graphs.{CodesFit}
 use Rattle.graph_read.proofs.Firsts.{first_within}
 use Rattle.graph_sheet.specs.Pairs.{GraphIn, FirstsTo, GraphLaid, counts_in}
 use Rattle.graph_sheet.specs.Pairs.{TwoOf, Among, joined_in, joined_at, pairs_in, PairCount, RuleTold}
-use Rattle.graph_sheet.specs.declared.joins.Sizes.{Sizes}
+use Rattle.graph_read.specs.declared.GraphSizes.{GraphSizes}
 use Rattle.graph_sheet.specs.declared.joins.Two.{Two}
 
 -- the first vertices of the links
@@ -59,7 +62,7 @@ module _ (counts firsts : List ℕ) (k a b : ℕ) (F : FirstsTo (take k counts) 
     width = sym (get_or-take k counts b 0 g);
   }
 
-pub two_among : {counts : List ℕ} {s : Sizes} {len a b : ℕ} {p : Two} → GraphIn counts s len → a < s.links
+pub two_among : {counts : List ℕ} {s : GraphSizes} {len a b : ℕ} {p : Two} → GraphIn counts s len → a < s.links
     → b < s.links → TwoOf (counts_in counts s) a b p → Among s.vertices p
 two_among {counts} {s} {len} {a} {b} G h g T = record {
   few = omega (arith, G.vertices, G.links.few);
@@ -94,10 +97,18 @@ pub count_zero : (p : ℕ → Bool) → 0 ≡ count 0 p
 unfolding count
 count_zero p = refl
 
-pub count_more : {z m r : ℕ} {b : Bool} (p : ℕ → Bool) → m ≡ count z p → b ≡ p z → r ≡ one b + m
-    → r ≡ count (z + 1) p
+one_is : (b : Bool) → from_bool b ≡ one b
+one_is true = refl
+one_is false = refl
+
+pub from_few : (b : Bool) → from_bool b ≤ 1
+from_few true = omega arith
+from_few false = omega arith
+
+pub count_more : {z m r : ℕ} {b : Bool} (p : ℕ → Bool) → m ≡ count z p → b ≡ p z → r ≡ from_bool b
+    → m + r ≡ count (z + 1) p
 unfolding count
-count_more p f t e = rw (add-one, e, t, f)
+count_more {z} {m} {r} {b} p f t e = rw add-one (omega (arith, one_is b, ap one t))
 
 pub count_all : {m : ℕ} (p : ℕ → Bool) (z w : ℕ) → z ≡ w → m ≡ count z p → m ≡ count w p
 count_all p z w e f = f ∙ ap (λ x. count x p) e
@@ -142,7 +153,7 @@ pairs_same cs adj {a} {b} {p} T =
 -- whether two links get a rule
 
 pub rule_not : (cs : List ℕ) (adj : ℕ → ℕ → Bool) (k z : ℕ) → k ≡ length cs → z % k ≤ z / k
-    → RuleTold cs adj z (record { ruled = false; pairs = 0 })
+    → RuleTold cs adj z None
 unfolding is_ruled
 rule_not cs adj k z e h = record {
   ruled = sym (ap (λ x. x && not (is_full cs adj (z / length cs) (z % length cs))) (le-ltb _ _ (rw e at h)));
@@ -151,7 +162,7 @@ rule_not cs adj k z e h = record {
 }
 
 -- the links of a graph, and of a code
-module _ {counts firsts : List ℕ} {s : Sizes} {len : ℕ} (G : GraphLaid counts firsts s len) where
+module _ {counts firsts : List ℕ} {s : GraphSizes} {len : ℕ} (G : GraphLaid counts firsts s len) where
   pub square_few : s.links * s.links ≤ 4096
   square_few = let l = G.graph.links.links in mul-le-mul l l
 
@@ -190,14 +201,16 @@ module _ (cs : List ℕ) (adj : ℕ → ℕ → Bool) (k z : ℕ) {p : Two} {r :
       ap (λ x. x * p.width) T.count ∙ ap (λ x. count_of cs (z / k) * x) T.width
       ∙ ap (λ x. count_of cs (z / x) * count_of cs (z % x)) e
 
-  pub rule_counted : (b : Bool) → b ≡ not (eqb r (p.count * p.width))
-      → RuleTold cs adj z (record { ruled = b; pairs = r })
+  pub rule_counted : (b : Bool) → b ≡ not (eqb r (p.count * p.width)) → RuleTold cs adj z (then_some b r)
   unfolding is_ruled is_full
-  rule_counted b q = record {
-    ruled =
-        q ∙ ap (λ x. not (eqb x (p.count * p.width))) pairs_are
-        ∙ ap (λ x. not (eqb (length (pairs_of cs adj first second)) x)) area_is
-        ∙ sym (ap (λ x. x && not (is_full cs adj first second)) (lt-ltb _ _ (rw e at h)));
-    pairs = λ _. pairs_are;
-    few = P.few;
-  }
+  rule_counted b q = counted b refl
+    where
+      told : b ≡ is_ruled cs adj z
+      told =
+          q ∙ ap (λ x. not (eqb x (p.count * p.width))) pairs_are
+          ∙ ap (λ x. not (eqb (length (pairs_of cs adj first second)) x)) area_is
+          ∙ sym (ap (λ x. x && not (is_full cs adj first second)) (lt-ltb _ _ (rw e at h)))
+
+      counted : (x : Bool) → b ≡ x → RuleTold cs adj z (then_some b r)
+      counted true f = rw f (record { ruled = sym f ∙ told; pairs = λ _. pairs_are; few = P.few })
+      counted false f = rw f (record { ruled = sym f ∙ told; pairs = λ t. clash false t refl; few = omega arith })

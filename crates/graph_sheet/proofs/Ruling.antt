@@ -1,4 +1,5 @@
 -- The rules, one code after another: the rule of code z has as its place the number of rules below it.
+use Rattle.std.proofs.Common.{Option, is_some, unwrap_or}
 use mathlib.Core.Path.{◌≡◌, refl, sym, ap, ◌∙◌}
 use mathlib.Core.Bool.{Bool, true, false, cond}
 use mathlib.Core.List.{List, [], ◌++◌, append-nil}
@@ -10,8 +11,9 @@ use lib.ListN.{length, get_or}
 use Rattle.sets.specs.Below.{count, sum_to}
 use Rattle.sets.proofs.Tests.{bool}
 use Rattle.sets.proofs.Below.{sum_in}
-use Rattle.output.specs.Output.{Wrote}
-use Rattle.output.proofs.Wrote.{wrote_none, wrote_then, wrote_same}
+use Rattle.output.specs.declared.Output.{Output}
+use Rattle.output.specs.Puts.{Puts}
+use Rattle.output.proofs.Puts.{puts_none, puts_then, puts_same}
 use Rattle.dimacs.specs.Lists.{for_each, join_to}
 use Rattle.dimacs.specs.Reading.{count_of}
 use Rattle.dimacs.specs.Made.{pairs_of, is_ruled, ruled, ruled_a, ruled_b, rule_pairs, pairs_before, rule_total, pair_total}
@@ -19,7 +21,6 @@ use Rattle.dimacs.specs.Made.{kind_of, value_of, rule_row, pair_row, rule_pair_r
 use Rattle.dimacs.proofs.Lists.{select_length, select_has, count_pass}
 use Rattle.graph_sheet.specs.Rows.{rule_row_bytes}
 use Rattle.graph_sheet.specs.Pairs.{RuleTold, Tallied, TotalsOf}
-use Rattle.graph_sheet.specs.declared.joins.RuleAt.{RuleAt}
 use Rattle.graph_sheet.specs.declared.joins.Totals.{Totals}
 
 -- t is the rules of the codes below z, and their pairs
@@ -39,23 +40,23 @@ count_no z p e = rw (add-one, e) (omega arith)
 
 -- rows of the numbers that pass
 module _ (p : ℕ → Bool) (f : ℕ → List ℕ) where
-  pub rows_none : (o : List ℕ) (at : ℕ) → Wrote (join_to (count 0 p) f) o at o at
+  pub rows_none : (o : Output) → Puts (join_to (count 0 p) f) o o
   unfolding count join_to
-  rows_none o at = wrote_none o at
+  rows_none o = puts_none o
 
-  pub rows_more : {o q s : List ℕ} {at e r : ℕ} (z : ℕ) (b : Bool) → b ≡ p z → Wrote (join_to (count z p) f) o at q e
-      → Wrote (cond b (f (count z p)) []) q e s r → Wrote (join_to (count (z + 1) p) f) o at s r
+  pub rows_more : {o q s : Output} (z : ℕ) (b : Bool) → b ≡ p z → Puts (join_to (count z p) f) o q
+      → Puts (cond b (f (count z p)) []) q s → Puts (join_to (count (z + 1) p) f) o s
   unfolding join_to
-  rows_more z true h x y = wrote_same (sym (ap (λ i. join_to i f) (count_yes z p (sym h)))) (wrote_then x y)
+  rows_more z true h x y = puts_same (sym (ap (λ i. join_to i f) (count_yes z p (sym h)))) (puts_then x y)
   rows_more z false h x y =
-      wrote_same (append_none ∙ sym (ap (λ i. join_to i f) (count_no z p (sym h)))) (wrote_then x y)
+      puts_same (append_none ∙ sym (ap (λ i. join_to i f) (count_no z p (sym h)))) (puts_then x y)
     where
       append_none : join_to (count z p) f ++ [] ≡ join_to (count z p) f
       append_none = simp append-nil
 
-  pub rows_done : {o q : List ℕ} {at e : ℕ} (z m : ℕ) → z ≡ m → Wrote (join_to (count z p) f) o at q e
-      → Wrote (join_to (count m p) f) o at q e
-  rows_done z m h x = wrote_same (ap (λ i. join_to (count i p) f) h) x
+  pub rows_done : {o q : Output} (z m : ℕ) → z ≡ m → Puts (join_to (count z p) f) o q
+      → Puts (join_to (count m p) f) o q
+  rows_done z m h x = puts_same (ap (λ i. join_to (count i p) f) h) x
 
 module _ (cs : List ℕ) (adj : ℕ → ℕ → Bool) where
   -- the rules before code z
@@ -104,11 +105,11 @@ module _ (cs : List ℕ) (adj : ℕ → ℕ → Bool) where
   unfolding count pairs_before sum_to
   tally_none = record { rules = refl; pairs = refl; rules_few = omega arith; pairs_few = omega arith }
 
-  pub tally_more : (z : ℕ) {t u : Totals} {r : RuleAt} → z < length cs * length cs → Tally cs adj z t
+  pub tally_more : (z : ℕ) {t u : Totals} {r : Option ℕ} → z < length cs * length cs → Tally cs adj z t
       → RuleTold cs adj z r → Tallied t r u → Tally cs adj (z + 1) u
-  tally_more z {t} {u} {r} h T R A = bool r.ruled yes no
+  tally_more z {t} {u} {r} h T R A = bool (is_some r) yes no
     where
-      yes : r.ruled ≡ true → Tally cs adj (z + 1) u
+      yes : is_some r ≡ true → Tally cs adj (z + 1) u
       yes e =
           let y = A.yes e in
           let q = sym R.ruled ∙ e in
@@ -116,14 +117,14 @@ module _ (cs : List ℕ) (adj : ℕ → ℕ → Bool) where
           record {
             rules = omega (arith, y.0, T.rules, c);
             pairs =
-                y.1 ∙ ap (λ x. x + r.pairs) T.pairs
+                y.1 ∙ ap (λ x. x + unwrap_or r 0) T.pairs
                 ∙ ap (λ x. pairs_before cs adj (place_of z) + x) (R.pairs e)
                 ∙ sym (before_more z h q) ∙ ap (pairs_before cs adj) (sym c);
             rules_few = omega (arith, y.0, T.rules_few);
             pairs_few = omega (arith, y.1, T.pairs_few, R.few);
           }
 
-      no : r.ruled ≡ false → Tally cs adj (z + 1) u
+      no : is_some r ≡ false → Tally cs adj (z + 1) u
       no e =
           let y = A.no e in
           let c = count_no z (is_ruled cs adj) (sym R.ruled ∙ e) in

@@ -1,13 +1,13 @@
 -- The marks of link pairs, by their codes: 0 where two links get no rule, else one more than the pairs that join them.
-use Rattle.std.specs.Prelude.{◌≡◌, Bool, List, ℕ, ◌-◌, ◌*◌, ◌≤◌, ◌<◌, ltb, length, get_or}
+use Rattle.std.specs.Prelude.{◌≡◌, Bool, Option, List, ℕ, ◌-◌, ◌*◌, ◌≤◌, ◌<◌, ltb, length, get_or}
+use Rattle.std.specs.Bool.{then_some}
 use Rattle.dimacs.specs.Made.{pair_total}
-use Rattle.graph_sheet.specs.declared.joins.RuleAt.{RuleAt}
 use Rattle.graph_sheet.specs.declared.joins.Totals.{Totals}
 use Rattle.graph_sheet.specs.Pairs.{RuleTold, TotalsOf}
 
 -- what a mark says
-unfoldable pub rule_in : ℕ → RuleAt
-rule_in m = record { ruled = ltb 0 m; pairs = m - 1 }
+unfoldable pub rule_in : ℕ → Option ℕ
+rule_in m = then_some (ltb 0 m) (m - 1)
 
 -- the marks of the codes below m are set
 pub record MarkedTo (cs : List ℕ) (adj : ℕ → ℕ → Bool) (marks : List ℕ) (m : ℕ) : Type 0 where

@@ -1,20 +1,13 @@
 // How many pairs join two links, and which links get a rule.
 ghost use Rattle.std.specs.Prelude.{◌≡◌, ◌+◌, ◌*◌, ◌<◌, length};
-ghost use Rattle.sets.specs.Below.{one, count};
+ghost use Rattle.sets.specs.Below.{count};
 ghost use Rattle.vset.specs.Words.{has};
 ghost use Rattle.dimacs.specs.Made.{joined};
 ghost use Rattle.graph_read.specs.Graphs.{Links, CodesFit};
 ghost use Rattle.graph_sheet.specs.Pairs.{FirstsTo, GraphLaid, counts_in, adjacent_in};
 ghost use Rattle.graph_sheet.specs.Pairs.{TwoOf, Among, joined_in, PairCount, RuleTold};
 
-use graph_read::is_joined;
-
-// The links and the vertices of a graph.
-#[derive(Clone, Copy)]
-pub struct Sizes {
-    pub links: usize,
-    pub vertices: usize,
-}
+use graph_read::{GraphSizes, is_joined};
 
 // Two links: the first vertex and the count of each.
 #[derive(Clone, Copy)]
@@ -25,13 +18,6 @@ pub struct Two {
     pub width: usize,
 }
 
-// Whether two links get a rule, and how many pairs join them.
-#[derive(Clone, Copy)]
-pub struct RuleAt {
-    pub ruled: bool,
-    pub pairs: usize,
-}
-
 // Rules, and the pairs of their links.
 #[derive(Clone, Copy)]
 pub struct Totals {
@@ -40,22 +26,19 @@ pub struct Totals {
 }
 
 // Keeps the first vertex of each link.
-pub fn keep_firsts(counts: &[u64], s: Sizes, firsts: &mut [u64])
+pub fn keep_firsts(counts: &[u64], s: GraphSizes, firsts: &mut [u64])
     requires { Links counts.now s.links × (length firsts.old ≡ 64) }
     ensures { FirstsTo (counts_in counts.now s) firsts.new s.links }
 {
-    let k = s.links;
     let mut first: u64 = 0;
-    let mut l = 0;
-    while l < k {
+    for l in 0..s.links {
         firsts[l] = first;
         first += counts[l];
-        l += 1;
     }
 }
 
 // Links a and b.
-pub fn two_links(counts: &[u64], firsts: &[u64], s: Sizes, a: usize, b: usize) -> Two
+pub fn two_links(counts: &[u64], firsts: &[u64], s: GraphSizes, a: usize, b: usize) -> Two
     requires { Links counts.now s.links × FirstsTo (counts_in counts.now s) firsts.now s.links
         × (a < s.links) × (b < s.links) }
     ensures { TwoOf (counts_in counts.now s) a b result }
@@ -68,26 +51,15 @@ pub fn two_links(counts: &[u64], firsts: &[u64], s: Sizes, a: usize, b: usize) -
     }
 }
 
-// One more where the test holds.
-fn counted(m: usize, b: bool) -> usize
-    requires { m < 1000000 }
-    ensures { result ≡ one b + m }
-{
-    if b { m + 1 } else { m }
-}
-
 // How many vertices of the second link are adjacent to position x of the first.
 fn row_count(codes: &[u64], n: usize, p: Two, x: usize) -> usize
     requires { CodesFit n (length codes.now) × Among n p × (x < p.count) }
     ensures { result ≡ count p.width (joined_in (joined n (has codes.now)) p x) }
 {
-    let w = p.width;
     let u = p.first + x;
-    let mut m: usize = 0;
-    let mut y = 0;
-    while y < w {
-        m = counted(m, is_joined(codes, n, u, p.second + y));
-        y += 1;
+    let mut m = 0;
+    for y in 0..p.width {
+        m += usize::from(is_joined(codes, n, u, p.second + y));
     }
     m
 }
@@ -97,18 +69,21 @@ fn pair_count(codes: &[u64], n: usize, p: Two) -> usize
     requires { CodesFit n (length codes.now) × Among n p }
     ensures { PairCount (joined n (has codes.now)) p result }
 {
-    let rows = p.count;
-    let mut m: usize = 0;
-    let mut x = 0;
-    while x < rows {
+    let mut m = 0;
+    for x in 0..p.count {
         m += row_count(codes, n, p, x);
-        x += 1;
     }
     m
 }
 
-// Whether the links with the code z get a rule, and how many pairs join them.
-pub fn rule_at(counts: &[u64], firsts: &[u64], codes: &[u64], s: Sizes, z: usize) -> RuleAt
+// How many pairs join the links with the code z, if they get a rule.
+pub fn rule_at(
+    counts: &[u64],
+    firsts: &[u64],
+    codes: &[u64],
+    s: GraphSizes,
+    z: usize,
+) -> Option<usize>
     requires { GraphLaid counts.now firsts.now s (length codes.now) × (z < s.links * s.links) }
     ensures { RuleTold (counts_in counts.now s) (adjacent_in codes.now s) z result }
 {
@@ -116,16 +91,10 @@ pub fn rule_at(counts: &[u64], firsts: &[u64], codes: &[u64], s: Sizes, z: usize
     let a = z / k;
     let b = z % k;
     if a >= b {
-        return RuleAt {
-            ruled: false,
-            pairs: 0,
-        };
+        return None;
     }
     let p = two_links(counts, firsts, s, a, b);
     let pairs = pair_count(codes, s.vertices, p);
     let most = p.count * p.width;
-    RuleAt {
-        ruled: pairs != most,
-        pairs,
-    }
+    (pairs != most).then_some(pairs)
 }

@@ -6,6 +6,6 @@ mod joins;
 mod marks;
 mod sections;
 
-pub use joins::{Sizes, Totals};
+pub use joins::Totals;
 pub use marks::count_rules;
 pub use sections::put_sheet;

@@ -1,68 +1,63 @@
 // The rules and the pairs of a graph, and a mark for every two links: 0 where they get no rule, else one more than the
 // pairs that join them. The writers look them up.
-ghost use Rattle.std.specs.Prelude.{◌≡◌, cond, ◌+◌, ◌≤◌, ◌<◌, length, get_or};
+ghost use Rattle.std.specs.Prelude.{◌≡◌, cond, is_some, unwrap_or, ◌+◌, ◌≤◌, ◌<◌, length, get_or};
 ghost use Rattle.graph_sheet.specs.Pairs.{GraphIn, FirstsTo, GraphLaid, counts_in, adjacent_in, Tallied};
 ghost use Rattle.graph_sheet.specs.Marks.{rule_in, RulesKept};
 
-use crate::joins::{RuleAt, Sizes, Totals, keep_firsts, rule_at};
+use crate::joins::{Totals, keep_firsts, rule_at};
+use graph_read::GraphSizes;
 
 // The mark of two links.
-fn mark_of(r: RuleAt) -> u64
-    requires { r.pairs ≤ 262144 }
-    ensures { result ≡ cond r.ruled (r.pairs + 1) 0 }
+fn mark_of(r: Option<usize>) -> u64
+    requires { unwrap_or r 0 ≤ 262144 }
+    ensures { result ≡ cond (is_some r) (unwrap_or r 0 + 1) 0 }
 {
-    if r.ruled {
-        return (r.pairs + 1) as u64;
+    match r {
+        Some(pairs) => pairs as u64 + 1,
+        None => 0,
     }
-    0
 }
 
 // What the mark of the code z says.
-pub fn rule_in(marks: &[u64], z: usize) -> RuleAt
+pub fn rule_in(marks: &[u64], z: usize) -> Option<usize>
     requires { z < length marks.now }
     ensures { result ≡ rule_in (get_or marks.now z 0) }
 {
-    let mark = marks[z] as usize;
-    if mark == 0 {
-        return RuleAt {
-            ruled: false,
-            pairs: 0,
-        };
-    }
-    RuleAt {
-        ruled: true,
-        pairs: mark - 1,
-    }
+    (marks[z] as usize).checked_sub(1)
 }
 
 // The totals with one rule more, if it is one.
-pub fn tallied(t: Totals, r: RuleAt) -> Totals
-    requires { (t.rules ≤ 4096) × (t.pairs ≤ 1073741824) × (r.pairs ≤ 262144) }
+pub fn tallied(t: Totals, r: Option<usize>) -> Totals
+    requires { (t.rules ≤ 4096) × (t.pairs ≤ 1073741824) × (unwrap_or r 0 ≤ 262144) }
     ensures { Tallied t r result }
 {
-    if r.ruled {
-        return Totals {
+    match r {
+        Some(pairs) => Totals {
             rules: t.rules + 1,
-            pairs: t.pairs + r.pairs,
-        };
+            pairs: t.pairs + pairs,
+        },
+        None => t,
     }
-    t
 }
 
 // Sets the marks, and counts the rules and their pairs.
-fn mark_rules(counts: &[u64], firsts: &[u64], codes: &[u64], s: Sizes, marks: &mut [u64]) -> Totals
+fn mark_rules(
+    counts: &[u64],
+    firsts: &[u64],
+    codes: &[u64],
+    s: GraphSizes,
+    marks: &mut [u64],
+) -> Totals
     requires { GraphLaid counts.now firsts.now s (length codes.now) × (length marks.old ≡ 4096) }
     ensures { RulesKept (counts_in counts.now s) (adjacent_in codes.now s)
         marks.new result }
 {
     let most = s.links * s.links;
     let mut t = Totals { rules: 0, pairs: 0 };
-    let mut z = 0;
-    while z < most {
+    for z in 0..most {
         let r = rule_at(counts, firsts, codes, s, z);
         marks[z] = mark_of(r);
         t = tallied(t, r);
-        z += 1;
     }
     t
 }
@@ -72,7 +67,7 @@ pub fn count_rules(
     counts: &[u64],
     firsts: &mut [u64],
     codes: &[u64],
-    s: Sizes,
+    s: GraphSizes,
     marks: &mut [u64],
 ) -> Totals
     requires { GraphIn counts.now s (length codes.now) × (length firsts.old ≡ 64)

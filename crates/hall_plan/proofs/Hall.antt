@@ -1,10 +1,11 @@
 -- The sheets that are planned in the buffers of a hall.
-use mathlib.Core.Path.{◌≡◌, sym, ap, subst, ◌∙◌}
+use mathlib.Core.Path.{◌≡◌, refl, sym, ap, subst, ◌∙◌}
 use mathlib.Core.Bool.{Bool, true, false, ◌&&◌}
 use mathlib.Core.List.{List}
 use Prim.Native.Nat.{ℕ, ◌≤◌}
 use native.Mathlib.Omega.{arith}
 use lib.Dec.{eqb, lit<}
+use Rattle.std.proofs.Common.{Err}
 use Rattle.wire.specs.Fields.{le32}
 use Rattle.sheet_rows.specs.Form.{hall_links}
 use Rattle.sheet_rows.proofs.Rows.{hall_form}
@@ -17,9 +18,8 @@ use Rattle.rules.specs.Job.{Job}
 use Rattle.zeros.specs.Zeros.{zeros}
 use Rattle.setting.specs.Setting.{Setting}
 use Rattle.planner.specs.Outcome.{refused, outcome}
-use Rattle.planner.specs.Planned.{verdict_number, Gives}
-use Rattle.planner.specs.declared.Planned.{Planned}
-use Rattle.planner.specs.declared.Verdict.TheVariants.{BadSheet}
+use Rattle.planner.specs.Planned.{Planned, Gives}
+use Rattle.planner.specs.declared.Refusal.TheVariants.{Sheet}
 use Rattle.hall_plan.specs.Hall.{is_festival, hall_outcome}
 
 -- an accepted sheet that is no festival's has the links of a hall
@@ -39,10 +39,10 @@ module _ (job : Job) (x : Setting) (m w : ℕ) where
   hall_refused e = ap (λ b. elim b [ true ↦ refused 3 m | false ↦ outcome job x m w ]) e
 
   -- what the call says of such a sheet
-  pub three_given : is_festival job.sheet ≡ true → {r : Planned} {cells : List ℕ}
-      → r ≡ record { verdict = BadSheet Counts; nodes = 0 } → cells ≡ zeros m → Gives (hall_outcome job x m w) r cells
-  three_given e {r} {cells} q z = subst (λ o. Gives o r cells) (sym (hall_refused e))
-      (record { answer = ap (λ y. verdict_number y.verdict) q; nodes = ap (λ y. y.nodes) q; cells = z })
+  pub three_given : is_festival job.sheet ≡ true → {cells : List ℕ} → cells ≡ zeros m
+      → Gives (hall_outcome job x m w) (Err (Sheet Counts)) cells
+  three_given e {cells} z = subst (λ o. Gives o (Err (Sheet Counts)) cells) (sym (hall_refused e))
+      (record { answer = refl; nodes = refl; cells = z })
 
   pub hall_planned : is_festival job.sheet ≡ false → hall_outcome job x m w ≡ outcome job x m w
   unfolding hall_outcome

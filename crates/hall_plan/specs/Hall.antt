@@ -7,8 +7,7 @@ use Rattle.rules.specs.Job.{Job}
 use Rattle.zeros.specs.Zeros.{zeros}
 use Rattle.setting.specs.Setting.{Setting}
 use Rattle.planner.specs.Outcome.{Outcome, refused, outcome}
-use Rattle.planner.specs.Planned.{Gives}
-use Rattle.planner.specs.declared.Planned.{Planned}
+use Rattle.planner.specs.Planned.{Planned, Gives}
 
 -- a "form 3 sheet that passes 1 and 2"
 unfoldable pub is_festival : List ℕ → Bool

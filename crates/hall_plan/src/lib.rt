@@ -7,11 +7,11 @@ ghost use Rattle.rules.specs.Job.{job_with};
 ghost use Rattle.setting.specs.Setting.{setting_of};
 ghost use Rattle.hall_plan.specs.Hall.{is_festival, PlanningHall};
 
-use planner::{Planned, Verdict, plan, refused};
+use planner::{Planned, Refusal, plan};
 use setting::Options;
 use sheet::{Cause, form_ok, link_count_ok};
 use wire::word;
-use zeros::{zero_cells, zero_words};
+use zeros::zero;
 
 // Whether a sheet is of form 3 and passes causes 1 and 2.
 fn is_festival(s: &[u8]) -> bool
@@ -37,9 +37,9 @@ pub fn plan_hall(
         cells.new work.new }
 {
     if is_festival(sheet) {
-        zero_cells(cells);
-        zero_words(work);
-        return refused(Verdict::BadSheet(Cause::Counts));
+        zero(cells);
+        zero(work);
+        return Err(Refusal::Sheet(Cause::Counts));
     }
     plan(sheet, channels, options, classes, cells, work)
 }

@@ -6,34 +6,39 @@ use Prim.Native.Nat.{ℕ, ◌+◌, ◌*◌, ◌/◌, ◌%◌, ◌≤◌, ◌<◌
 use native.Mathlib.Omega.{arith}
 use native.Mathlib.Nat.{mul-le-mul, mul-le-mul_right}
 use lib.Dec.{ltb, eqb}
-use lib.ListN.{take, drop}
-use lib.Seq.{take_at}
+use lib.ListN.{take, length}
+use Rattle.std.proofs.Common.{replicate}
+use Rattle.std.proofs.lemmas.List.{take_at, ext_get_or, get_or-replicate, length-replicate}
 use borrow.Author.Tests.{eq-eqb, ne_eqb, lt-ltb, le-ltb, ltb-true, ltb-false, eqb-true, eqb-false}
 use Rattle.sets.specs.Below.{tabulate}
 use Rattle.sets.specs.Sets.{Set, ◌∪◌, just, nothing}
 use Rattle.sets.proofs.Tests.{bool, and_l, and_r}
-use Rattle.sets.proofs.Lists.{length_tabulate}
+use Rattle.sets.proofs.Lists.{length_tabulate, get_d_tabulate}
 use Rattle.dimacs.specs.Made.{joined}
 use Rattle.dimacs.proofs.Codes.{code_lt, first_lt, second_lt}
 use Rattle.heaviest_sheet.specs.Written.{links, is_last, meets, is_edge, edges, graph}
 use Rattle.heaviest_sheet.specs.Call.{SizesFit}
 use Rattle.heaviest.specs.Words.{up_to}
 
--- the counts: those of the first l links are set
-abbrev pub counted : List ℕ → ℕ → ℕ → List ℕ → Type 0
-counted before m l now = now ≡ tabulate l (λ i. m) ++ drop l before
+-- the counts: as many as links, and all alike
+alike : (k m : ℕ) → replicate k m ≡ tabulate k (λ l. m)
+alike k m =
+    let n = length_tabulate k (λ l. m) in
+    ext_get_or 0 _ _ (length-replicate k m ∙ sym n)
+    (λ i h. let g : i < k = omega (arith, length-replicate k m) in
+    get_or-replicate k i m 0 g ∙ sym (get_d_tabulate k (λ l. m) i 0 g))
 
-pub counted_all : (before now : List ℕ) (k m l : ℕ) → l ≡ k → counted before m l now → take k now ≡ links k m
+pub counts_set : {s : List ℕ} (k m n : ℕ) (rest : List ℕ) → n ≡ k → s ≡ replicate n m → take k (s ++ rest) ≡ links k m
 unfolding links
-counted_all before now k m l e c =
-    ap (take k) (c ∙ ap (λ i. tabulate i (λ _. m) ++ drop i before) e)
-    ∙ take_at (tabulate k (λ _. m)) _ k (length_tabulate k (λ _. m))
+counts_set {s} k m n rest e f =
+    let q = f ∙ ap (λ x. replicate x m) e in
+    take_at s rest k (ap length q ∙ length-replicate k m) ∙ q ∙ alike k m
 
 -- the tests of a pair
 module _ (m u v : ℕ) where
-  pub last_not : (u % m + 1 ≡ m → ⊥) → false ≡ (is_last m u && is_last m v)
+  pub last_not : {r : Bool} → r ≡ false → (u % m + 1 ≡ m → ⊥) → r ≡ (is_last m u && is_last m v)
   unfolding is_last
-  last_not ne = rw (ne_eqb (u % m + 1) m ne) refl
+  last_not f ne = f ∙ rw (ne_eqb (u % m + 1) m ne) refl
 
   pub last_both : u % m + 1 ≡ m → eqb (v % m + 1) m ≡ (is_last m u && is_last m v)
   unfolding is_last

@@ -1,12 +1,7 @@
 -- The outcome of the call, cause by cause.
-use mathlib.Core.Path.{◌≡◌, refl, sym, ap, subst, ◌∙◌}
-use mathlib.Core.Bool.{Bool, true, false, not, ◌&&◌}
-use mathlib.Core.List.{List}
-use Prim.Native.Nat.{ℕ, ◌*◌, ◌≤◌, ◌<◌}
-use native.Mathlib.Omega.{arith}
-use lib.Dec.{ltb, leb}
-use lib.ListN.{length, take}
-use borrow.Author.Tests.{lt-ltb, le-leb, lt-leb, not-true, not-false}
+use Rattle.std.proofs.Common.{◌≡◌, refl, sym, ap, subst, ◌∙◌, Bool, true, false, ◌&&◌, Ok, Err, List, ◌⊎◌, ⊎_elim}
+use Rattle.std.proofs.Common.{ℕ, ◌*◌, ◌≤◌, ◌<◌, ltb, leb, length, take, lt-ltb, le-leb, arith}
+use Rattle.std.proofs.lemmas.Bool.{lt-leb}
 use Rattle.sets.proofs.Tests.{and_in, and_false}
 use Rattle.vset.specs.Words.{has}
 use Rattle.zeros.specs.Zeros.{zeros}
@@ -19,30 +14,33 @@ use Rattle.dimacs.proofs.Choices.{yes_is, no_is}
 use Rattle.dimacs.proofs.Fields.{sections}
 use Rattle.dimacs.proofs.Few.{rules_few}
 use Rattle.graph_sheet.specs.Pairs.{GraphIn, TotalsOf}
-use Rattle.graph_sheet.specs.declared.joins.Sizes.{Sizes}
+use Rattle.graph_read.specs.declared.GraphSizes.{GraphSizes}
 use Rattle.graph_sheet.specs.declared.joins.Totals.{Totals}
 use Rattle.heaviest_sheet.specs.Written.{links, graph, sheet}
 use Rattle.heaviest_sheet.specs.Call.{sizes_ok, SizesFit, in_range, heaviest_of}
 use Rattle.heaviest_sheet.proofs.Sizes.{sizes}
 use Rattle.heaviest_sheet.proofs.Links.{links_length, links_first, links_vertices, links_small}
 use Rattle.heaviest_sheet.proofs.FewPairs.{few_pairs}
-use Rattle.heaviest.specs.Gives.{heaviest_number, HeaviestGives}
-use Rattle.heaviest.specs.declared.HeaviestAnswer.TheVariants.{Written, OutOfRange}
-use Rattle.heaviest.specs.declared.HeaviestSheet.{HeaviestSheet}
+use Rattle.heaviest.specs.Gives.{HeaviestGives}
+use Rattle.heaviest.specs.declared.HeaviestRefusal.TheVariants.{OutOfRange}
 
 -- the test of the sizes
 module _ (k m : ℕ) where
-  pub no_links : k ≡ 0 → false ≡ sizes_ok k m
+  no_links : k ≡ 0 → false ≡ sizes_ok k m
   unfolding sizes_ok
   no_links e = rw e refl
 
-  pub no_freqs : m ≡ 0 → false ≡ sizes_ok k m
+  no_freqs : m ≡ 0 → false ≡ sizes_ok k m
   unfolding sizes_ok
   no_freqs e = rw e (sym (ap (λ b. b && (leb k 64 && leb (k * 0) 512)) (and_false (ltb 0 k) false refl)))
 
-  pub many_links : 64 < k → false ≡ sizes_ok k m
+  many_links : 64 < k → false ≡ sizes_ok k m
   unfolding sizes_ok
   many_links h = rw (lt-leb k 64 h) (sym (and_false (ltb 0 k && ltb 0 m) false refl))
+
+  pub sizes_not : {r : Bool} → r ≡ false
+      → ((k ≡ 0 → ⊥) × (m ≡ 0 → ⊥) × (64 < k)) ⊎ (((k ≡ 0 → ⊥) × (m ≡ 0)) ⊎ (k ≡ 0)) → r ≡ sizes_ok k m
+  sizes_not f h = f ∙ ⊎_elim (λ a. many_links a.2) (⊎_elim (λ b. no_freqs b.1) no_links) h
 
   pub sizes_are : (k ≡ 0 → ⊥) → (m ≡ 0 → ⊥) → k ≤ 64 → leb (k * m) 512 ≡ sizes_ok k m
   unfolding sizes_ok
@@ -50,7 +48,7 @@ module _ (k m : ℕ) where
 
 -- the graph in words
 module _ (k m : ℕ) (Z : SizesFit k m) (counts : List ℕ) (e : take k counts ≡ links k m) where
-  abbrev s : Sizes
+  abbrev s : GraphSizes
   s = record { links = k; vertices = k * m }
 
   first_all : first_of (take k counts) k ≡ k * m
@@ -98,42 +96,35 @@ sheet_few k m Z =
 
 -- a refusal, and the sheet
 module _ (k m : ℕ) {b : List ℕ} (room : ℕ) (z : b ≡ zeros room) where
-  refused_gives : {r : HeaviestSheet} → in_range k m room ≡ false → r ≡ record { answer = OutOfRange; length = 0 }
-      → HeaviestGives (heaviest_of k m room) r b
+  refused_gives : in_range k m room ≡ false → HeaviestGives (heaviest_of k m room) (Err OutOfRange) b
   unfolding heaviest_of
-  refused_gives {r} e q =
-      subst (λ o. HeaviestGives o r b) (sym (no_is (in_range k m room) _ _ e)) (record {
-        answer = ap (λ i. heaviest_number i.answer) q;
-        length = ap (λ (i : HeaviestSheet). i.length) q;
-        bytes = z;
-        few = omega (arith, ap (λ (i : HeaviestSheet). i.length) q);
-      })
+  refused_gives e =
+      subst (λ o. HeaviestGives o (Err OutOfRange) b) (sym (no_is (in_range k m room) _ _ e))
+      (record { answer = refl; length = refl; bytes = z; few = omega arith })
 
   module _ {t : Bool} (e : t ≡ sizes_ok k m) where
-    pub sizes_gives : {r : HeaviestSheet} → not t ≡ true → r ≡ record { answer = OutOfRange; length = 0 }
-        → HeaviestGives (heaviest_of k m room) r b
+    pub sizes_gives : t ≡ false → HeaviestGives (heaviest_of k m room) (Err OutOfRange) b
     unfolding in_range
-    sizes_gives f = refused_gives (ap (λ x. x && leb 65536 room) (sym e ∙ not-true t f))
+    sizes_gives f = refused_gives (ap (λ x. x && leb 65536 room) (sym e ∙ f))
 
-    pub short_gives : {r : HeaviestSheet} → length b < 65536 → r ≡ record { answer = OutOfRange; length = 0 }
-        → HeaviestGives (heaviest_of k m room) r b
+    pub short_gives : length b < 65536 → HeaviestGives (heaviest_of k m room) (Err OutOfRange) b
     unfolding in_range
     short_gives h =
         let short = lt-leb 65536 room (omega (arith, zero_length b room z)) in
         refused_gives (and_false (sizes_ok k m) (leb 65536 room) short)
 
-    pub sizes_fit : not t ≡ false → SizesFit k m
-    sizes_fit f = sizes k m (sym e ∙ not-false t f)
+    pub sizes_fit : t ≡ true → SizesFit k m
+    sizes_fit f = sizes k m (sym e ∙ f)
 
-    pub sheet_gives : {a : List ℕ} {l : ℕ} → not t ≡ false → 65536 ≤ length b → Wrote (sheet k m) b 0 a l
-        → HeaviestGives (heaviest_of k m room) (record { answer = Written; length = l }) a
+    pub sheet_gives : {a : List ℕ} {l : ℕ} → t ≡ true → 65536 ≤ length b → Wrote (sheet k m) b 0 a l
+        → HeaviestGives (heaviest_of k m room) (Ok l) a
     unfolding heaviest_of
     sheet_gives {a} {l} f h w =
         let o = zero_length b room z in
         let few = sheet_few k m (sizes_fit f) in
         let y : in_range k m room ≡ true =
-        unfold in_range in and_in (sym e ∙ not-false t f) (le-leb 65536 room (omega arith)) in
-        subst (λ o. HeaviestGives o (record { answer = Written; length = l }) a) (sym (yes_is (in_range k m room) _ _ y))
+        unfold in_range in and_in (sym e ∙ f) (le-leb 65536 room (omega arith)) in
+        subst (λ o. HeaviestGives o (Ok l) a) (sym (yes_is (in_range k m room) _ _ y))
         (record {
           answer = refl;
           length = omega (arith, w.end);

@@ -14,11 +14,7 @@ pub fn set_counts(counts: &mut [u64], k: usize, m: usize)
     requires { SizesFit k m × (length counts.old ≡ 64) }
     ensures { take k counts.new ≡ links k m }
 {
-    let mut l = 0;
-    while l < k {
-        counts[l] = m as u64;
-        l += 1;
-    }
+    counts[..k].fill(m as u64);
 }
 
 // Whether each of two vertices is the last of its link.
@@ -26,10 +22,7 @@ fn both_last(m: usize, u: usize, v: usize) -> bool
     requires { (0 < m) × (u < 512) × (v < 512) }
     ensures { result ≡ (is_last m u && is_last m v) }
 {
-    if u % m + 1 != m {
-        return false;
-    }
-    v % m + 1 == m
+    u % m + 1 == m && v % m + 1 == m
 }
 
 // Whether u is of an earlier link than v, and they are adjacent.
@@ -72,10 +65,7 @@ pub fn keep_edges(codes: &mut [u64], k: usize, m: usize)
     ensures { joined (k * m) (has codes.new) ≡ graph k m }
 {
     let n = k * m;
-    let most = n * n;
-    let mut z = 0;
-    while z < most {
+    for z in 0..n * n {
         keep_edge(codes, k, m, z);
-        z += 1;
     }
 }

@@ -14,40 +14,23 @@ ghost use Rattle.heaviest_sheet.specs.Call.{sizes_ok, SizesFit, heaviest_of};
 ghost use Rattle.heaviest.specs.Gives.{heaviest_number, HeaviestGives};
 
 use edges::{keep_edges, set_counts};
-use graph_sheet::{Sizes, count_rules, put_sheet};
-use zeros::zero_bytes;
+use graph_read::GraphSizes;
+use graph_sheet::{count_rules, put_sheet};
+use zeros::zero;
 
-// What the call says: the sheet is written, or a size or the buffer is out of range.
-#[derive(Clone, Copy)]
-pub enum HeaviestAnswer {
-    Written,
+// Why there is no sheet: a size or the buffer is out of range.
+#[derive(Clone, Copy, Debug, PartialEq, Eq)]
+pub enum HeaviestRefusal {
     OutOfRange,
 }
 
-// The answer with the sheet's length.
-#[derive(Clone, Copy)]
-pub struct HeaviestSheet {
-    pub answer: HeaviestAnswer,
-    pub length: usize,
-}
-
 // The paper's number for an answer.
-pub fn heaviest_number(a: HeaviestAnswer) -> u32
-    ensures { result ≡ heaviest_number a }
+pub fn heaviest_number(r: Result<usize, HeaviestRefusal>) -> u32
+    ensures { result ≡ heaviest_number r }
 {
-    match a {
-        HeaviestAnswer::Written => 0,
-        HeaviestAnswer::OutOfRange => 18,
-    }
-}
-
-// A refusal: no length.
-fn refused() -> HeaviestSheet
-    ensures { result ≡ record { answer = HeaviestAnswer.OutOfRange; length = 0 } }
-{
-    HeaviestSheet {
-        answer: HeaviestAnswer::OutOfRange,
-        length: 0,
+    match r {
+        Ok(_) => 0,
+        Err(HeaviestRefusal::OutOfRange) => 18,
     }
 }
 
@@ -56,16 +39,7 @@ fn sizes_ok(k: usize, m: usize) -> bool
     requires { m < 4294967296 }
     ensures { result ≡ sizes_ok k m }
 {
-    if k == 0 {
-        return false;
-    }
-    if m == 0 {
-        return false;
-    }
-    if k > 64 {
-        return false;
-    }
-    k * m <= 512
+    k != 0 && m != 0 && k <= 64 && k * m <= 512
 }
 
 // Puts the sheet of the graph in the words, with words for the first vertices of the links and for the rules.
@@ -83,7 +57,7 @@ fn put_graph(
         × (length marks.old ≡ 4096) }
     ensures { Wrote (sheet k m) out.old 0 out.new result }
 {
-    let s = Sizes {
+    let s = GraphSizes {
         links: k,
         vertices: k * m,
     };
@@ -126,19 +100,15 @@ fn put_heaviest(out: &mut [u8], k: usize, m: usize) -> usize
 
 // The call: the sheet of the heaviest job of k links with m frequencies each, with its length, and zeros after it; on
 // a refusal the buffer is zero.
-pub fn heaviest(k: u32, m: u32, buffer: &mut [u8]) -> HeaviestSheet
+pub fn heaviest(k: u32, m: u32, buffer: &mut [u8]) -> Result<usize, HeaviestRefusal>
     ensures { HeaviestGives (heaviest_of k m (length buffer.old)) result buffer.new }
 {
-    zero_bytes(buffer);
+    zero(buffer);
     if !sizes_ok(k as usize, m as usize) {
-        return refused();
+        return Err(HeaviestRefusal::OutOfRange);
     }
     if buffer.len() < 65536 {
-        return refused();
+        return Err(HeaviestRefusal::OutOfRange);
     }
-    let length = put_heaviest(buffer, k as usize, m as usize);
-    HeaviestSheet {
-        answer: HeaviestAnswer::Written,
-        length,
-    }
+    Ok(put_heaviest(buffer, k as usize, m as usize))
 }

@@ -1,57 +1,68 @@
-// Numbers in decimal and lines of text, put into a lent output. The contracts say by `Wrote` of the crate `output` that
+// Numbers in decimal and lines of text, put into a lent output. The contracts say by `Puts` of the crate `output` that
 // the bytes of specs/Lines.antt were put.
 #![tactic(auto)]
 
-ghost use Rattle.std.specs.Prelude.{◌+◌, ◌≤◌, ◌<◌, length};
-ghost use Rattle.output.specs.Output.{most_text, Wrote};
+ghost use Rattle.std.specs.Prelude.{◌≡◌, ◌+◌, ◌%◌, ◌≤◌, ◌<◌, length};
+ghost use Rattle.output.specs.Output.{most_text};
+ghost use Rattle.output.specs.Puts.{Puts};
 ghost use Rattle.lines.specs.Lines.{decimal, ending, line};
 
-use output::{put_byte, put_word};
+use output::Output;
 
-// Puts a number of one or two digits in decimal.
-fn put_small(out: &mut [u8], at: usize, n: u32) -> usize
-    requires { (n < 100) × (at + length (decimal n) ≤ most_text) }
-    ensures { Wrote (decimal n) out.old at out.new result }
+// The byte of a number's last digit.
+fn last_digit(n: u32) -> u8
+    ensures { result ≡ 48 + n % 10 }
 {
+    b'0' + (n % 10) as u8
+}
+
+// Puts a number of one to three digits in decimal.
+fn put_small(out: &mut Output, n: u32)
+    requires { (n < 1000) × (out.old.end + length (decimal n) ≤ most_text) }
+    ensures { Puts (decimal n) out.old out.new }
+{
+    let last = last_digit(n);
     if n < 10 {
-        return put_byte(out, at, (48 + n) as u8);
+        out.put_byte(last);
+        return;
     }
-    let one = put_byte(out, at, (48 + n / 10) as u8);
-    put_byte(out, one, (48 + n % 10) as u8)
+    let middle = last_digit(n / 10);
+    if n < 100 {
+        out.put_word(&[middle, last]);
+        return;
+    }
+    out.put_word(&[last_digit(n / 100), middle, last]);
 }
 
 // Puts a number in decimal: its earlier digits, then the last.
-pub fn put_decimal(out: &mut [u8], at: usize, n: u32) -> usize
-    requires { at + length (decimal n) ≤ most_text }
-    ensures { Wrote (decimal n) out.old at out.new result }
+pub fn put_decimal(out: &mut Output, n: u32)
+    requires { out.old.end + length (decimal n) ≤ most_text }
+    ensures { Puts (decimal n) out.old out.new }
 {
-    if n < 100 {
-        return put_small(out, at, n);
-    }
     if n < 1000 {
-        let two = put_small(out, at, n / 10);
-        return put_byte(out, two, (48 + n % 10) as u8);
+        put_small(out, n);
+        return;
     }
-    let last = put_decimal(out, at, n / 10);
-    put_byte(out, last, (48 + n % 10) as u8)
+    put_decimal(out, n / 10);
+    out.put_byte(last_digit(n));
 }
 
 // Puts what follows a line's first word: a space, a number and a newline.
-pub fn put_ending(out: &mut [u8], at: usize, n: u32) -> usize
-    requires { at + 12 ≤ most_text }
-    ensures { Wrote (ending n) out.old at out.new result × (result ≤ at + 12) }
+pub fn put_ending(out: &mut Output, n: u32)
+    requires { out.old.end + 12 ≤ most_text }
+    ensures { Puts (ending n) out.old out.new × (out.new.end ≤ out.old.end + 12) }
 {
-    let number_at = put_byte(out, at, b' ');
-    let end = put_decimal(out, number_at, n);
-    put_byte(out, end, b'\n')
+    out.put_byte(b' ');
+    put_decimal(out, n);
+    out.put_byte(b'\n');
 }
 
 // Puts a line of a word and a number.
-pub fn put_line(out: &mut [u8], at: usize, word: &[u8], n: u32) -> usize
-    requires { at + length word.now + 12 ≤ most_text }
-    ensures { Wrote (line word.now n) out.old at out.new result
-        × (result ≤ at + length word.now + 12) }
+pub fn put_line(out: &mut Output, word: &[u8], n: u32)
+    requires { out.old.end + length word.now + 12 ≤ most_text }
+    ensures { Puts (line word.now n) out.old out.new
+        × (out.new.end ≤ out.old.end + length word.now + 12) }
 {
-    let end = put_word(out, at, word);
-    put_ending(out, end, n)
+    out.put_word(word);
+    put_ending(out, n);
 }

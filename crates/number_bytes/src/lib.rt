@@ -2,62 +2,78 @@
 // The contracts cite specs/NumberBytes.antt, over the bytes of a number.
 #![tactic(auto)]
 
-ghost use Rattle.std.specs.Prelude.{◌≡◌, ◌/◌, ◌%◌, ◌^◌, length};
-ghost use Rattle.number_bytes.specs.NumberBytes.{byte_at, number_bytes};
+ghost use Rattle.std.specs.Prelude.{◌≡◌, ℕ, List, true, refl, length, map};
+ghost use Rattle.std.specs.Int.{is_in_range};
+ghost use Rattle.number_bytes.specs.NumberBytes.{byte_at, number_bytes, same_values};
 
-// Byte j of a number; the lowest is byte 0.
-fn byte_of(v: u64, j: usize) -> u8
-    ensures { result ≡ v / 256 ^ j % 256 }
-{
-    let mut rest = v;
-    let mut below = 0;
-    while below < j {
-        rest /= 256;
-        below += 1;
-    }
-    (rest % 256) as u8
+// A number of as many bytes as its type has.
+pub trait Number: Copy + Into<u64> {
+    const BYTES: usize;
+
+    ghost BYTES: { ℕ };
+
+    // Which number it is.
+    ghost value: { Self → ℕ };
+
+    ghost bytes: { List Self → ℕ → List ℕ };
+
+    ghost width: { is_in_range 1 8 BYTES ≡ true };
+
+    ghost converts_to_value: { (x : Self) (n : ℕ) → Self.converts x n → n ≡ value x };
+
+    ghost bytes_of_values: { (xs : List Self) (room : ℕ) → bytes xs room ≡ number_bytes BYTES (map value xs) room };
 }
 
-// Byte i of numbers of four bytes, and 0 past them.
-fn byte_of_fours(numbers: &[u32], i: usize) -> u8
-    ensures { result ≡ byte_at 4 numbers.now i }
-{
-    let at = i / 4;
-    if at >= numbers.len() {
-        return 0;
-    }
-    byte_of(numbers[at] as u64, i % 4)
+impl Number for u32 {
+    const BYTES: usize = 4;
+
+    ghost BYTES = { 4 };
+
+    ghost value = { λ x. x };
+
+    ghost bytes = { number_bytes 4 };
+
+    ghost width = { refl };
+
+    ghost converts_to_value = { λ _ _ same. same };
+
+    ghost bytes_of_values = { same_values 4 };
 }
 
-// Byte i of numbers of eight bytes, and 0 past them.
-fn byte_of_eights(numbers: &[u64], i: usize) -> u8
-    ensures { result ≡ byte_at 8 numbers.now i }
-{
-    let at = i / 8;
-    if at >= numbers.len() {
-        return 0;
-    }
-    byte_of(numbers[at], i % 8)
+impl Number for u64 {
+    const BYTES: usize = 8;
+
+    ghost BYTES = { 8 };
+
+    ghost value = { λ x. x };
+
+    ghost bytes = { number_bytes 8 };
+
+    ghost width = { refl };
+
+    ghost converts_to_value = { λ _ _ same. same };
+
+    ghost bytes_of_values = { same_values 8 };
 }
 
-// Puts numbers of four bytes.
-pub fn put_fours(from: &[u32], to: &mut [u8])
-    ensures { to.new ≡ number_bytes 4 from.now (length to.old) }
+// Byte i of the numbers, and 0 past them.
+fn byte_of<T: Number>(numbers: &[T], i: usize) -> u8
+    ensures { result ≡ byte_at T.BYTES (map T.value numbers.now) i }
 {
-    let mut i = 0;
-    while i < to.len() {
-        to[i] = byte_of_fours(from, i);
-        i += 1;
+    match numbers.get(i / T::BYTES) {
+        Some(number) => {
+            let number: u64 = (*number).into();
+            number.to_le_bytes()[i % T::BYTES]
+        }
+        None => 0,
     }
 }
 
-// Puts numbers of eight bytes.
-pub fn put_eights(from: &[u64], to: &mut [u8])
-    ensures { to.new ≡ number_bytes 8 from.now (length to.old) }
+// Puts the numbers' bytes, the lowest of each first, and zeros after them.
+pub fn put_numbers<T: Number>(from: &[T], to: &mut [u8])
+    ensures { to.new ≡ T.bytes from.now (length to.old) }
 {
-    let mut at = 0;
-    while at < to.len() {
-        to[at] = byte_of_eights(from, at);
-        at += 1;
+    for (i, byte) in to.iter_mut().enumerate() {
+        *byte = byte_of(from, i);
     }
 }

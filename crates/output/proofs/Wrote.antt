@@ -2,11 +2,10 @@
 use mathlib.Core.Path.{◌≡◌, refl, sym, ap, subst, ◌∙◌}
 use mathlib.Core.List.{List, [], ◌∷◌, ◌++◌, append-nil, append_assoc}
 use Prim.Native.Nat.{ℕ, zero, suc, ◌+◌, ◌-◌, ◌≤◌, ◌<◌}
-use native.Mathlib.Numerals.{add-one}
 use native.Mathlib.Omega.{arith}
 use lib.ListN.{length, take, drop, set, get_or, replicate, length-append, length-take, length-drop, length-set}
 use lib.ListN.{length-replicate}
-use lib.Seq.{drop-cons, take-append-le, set_at, take-suc, take-length, take_all}
+use lib.Seq.{drop-cons, drop-drop, take-append-le, take_at, drop_at, set_at, take-length, take_all}
 use Rattle.zeros.specs.Zeros.{zeros}
 use Rattle.output.specs.Output.{over, padded, Wrote}
 
@@ -77,6 +76,27 @@ past_byte out at b h = record {
   text = λ ws old e q. let l = over_length ws old out q in q ∙ sym (over_full ws (b ∷ []) old (omega arith));
 }
 
+-- a word that fits, in its place
+pub wrote_word : (out word : List ℕ) (at : ℕ) → at + length word ≤ length out
+    → Wrote word out at (take at out ++ (word ++ drop (length word) (drop at out))) (at + length word)
+wrote_word out word at h = record {
+  end = refl;
+  size = length-append (take at out) _ ∙ simp (length-append, length-take, length-drop) (omega arith);
+  text = λ ws old e q.
+      let l = over_length ws old out q in
+      let f : out ≡ ws ++ drop (length ws) old = q ∙ over_fits ws old (omega arith) in
+      let n = length-append ws word in
+      rw (
+        f,
+        take_at ws (drop (length ws) old) at e,
+        drop_at ws (drop (length ws) old) at e,
+        drop-drop (length word) (length ws) old,
+      )
+      (sym (append_assoc ws word _)
+      ∙ ap (λ k. (ws ++ word) ++ drop k old) (sym n)
+      ∙ sym (over_fits (ws ++ word) old (omega arith)));
+}
+
 -- nothing, and one piece after another
 pub wrote_none : (out : List ℕ) (at : ℕ) → Wrote [] out at out at
 wrote_none out at = record {
@@ -96,15 +116,6 @@ wrote_then {a} {b} {l} {m} {n} {at} {r} {e} p q = record {
 
 pub wrote_same : {a b l m : List ℕ} {at r : ℕ} → a ≡ b → Wrote a l at m r → Wrote b l at m r
 wrote_same {a} {b} {l} {m} {at} {r} e p = subst (λ x. Wrote x l at m r) e p
-
--- the loop `while i < word.len() { end = put_byte(out, end, word[i]); i += 1; }`
-pub word_more : {out m n : List ℕ} {at e r : ℕ} (word : List ℕ) (i : ℕ) → i < length word
-    → Wrote (take i word) out at m e → Wrote (get_or word i 0 ∷ []) m e n r → Wrote (take (i + 1) word) out at n r
-word_more word i h p q = wrote_same (sym (rw add-one (take-suc word i 0 h))) (wrote_then p q)
-
-pub word_done : {out m : List ℕ} {at e : ℕ} (word : List ℕ) (i : ℕ) → i ≡ length word
-    → Wrote (take i word) out at m e → Wrote word out at m e
-word_done word i h p = wrote_same (ap (λ x. take x word) h ∙ take-length word) p
 
 -- a text that was put from the start: over what the output held, and over zeros
 pub wrote_over : {a l m : List ℕ} {r : ℕ} → Wrote a l 0 m r → m ≡ over a l

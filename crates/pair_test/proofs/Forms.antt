@@ -1,7 +1,5 @@
 -- A sheet of form 1 is read and judged as before: its link rows have four bytes, and no widths.
-use Prim.Native.Nat.{ℕ}
-use mathlib.Core.Path.{◌≡◌, refl, ap, ◌∙◌}
-use mathlib.Core.List.{List}
+use Rattle.std.proofs.Common.{ℕ, ◌≡◌, refl, ap, ◌∙◌, List}
 use Rattle.wire.specs.Fields.{le32}
 use Rattle.sheet_rows.specs.declared.Form.{Form}
 use Rattle.sheet_rows.specs.Form.{form_by, form_of}

@@ -1,14 +1,6 @@
 -- Laws of layers, of the sections of an accepted sheet and of what its rows may say.
-use Prim.Native.Nat.{ℕ, zero, suc, ◌+◌, ◌-◌, ◌*◌, ◌≤◌, ◌<◌}
-use mathlib.Core.Path.{◌≡◌, sym}
-use mathlib.Core.List.{List}
-use mathlib.Core.Logic.{◌⊎◌, inl, inr}
-use mathlib.Core.Bool.{true, ◌&&◌}
-use native.Mathlib.Numerals.{add-one}
-use native.Mathlib.Omega.{arith}
-use lib.ListN.{length, length-drop}
-use lib.Dec.{eqb, ltb, leb}
-use borrow.Author.Tests.{eqb-true, ltb-true, leb-true, leb-false, eq-eqb, lt-ltb, le-leb, lt-leb}
+use Rattle.std.proofs.Common.{ℕ, zero, suc, ◌+◌, ◌-◌, ◌*◌, ◌≤◌, ◌<◌, ◌≡◌, sym, List, ◌⊎◌, inl, inr, true, ◌&&◌, add-one, arith, length, length-drop, eqb, ltb, leb, eqb-true, ltb-true, leb-true, leb-false, eq-eqb, lt-ltb, le-leb}
+use borrow.Author.Tests.{lt-leb}
 use Rattle.sets.specs.Below.{sum_to}
 use Rattle.sets.proofs.Tests.{bool, iff, and_l, and_r, and_in, or_case, below}
 use Rattle.sets.proofs.Below.{all_out, sum_in}

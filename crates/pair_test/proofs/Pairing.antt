@@ -1,16 +1,8 @@
 -- Laws of the pair test over the rules of a sheet: the rule of two links, where it stands, and that there is one at
 -- most.
-use Prim.Native.Nat.{ℕ, zero, suc, ◌+◌, ◌*◌, ◌≤◌, ◌<◌}
-use mathlib.Core.Path.{◌≡◌, refl, sym, ◌∙◌}
-use mathlib.Core.List.{List}
-use mathlib.Core.Logic.{◌⊎◌, inl, inr}
-use mathlib.Core.Bool.{Bool, true, false, not, ◌&&◌, ◌||◌}
+use Rattle.std.proofs.Common.{ℕ, zero, suc, ◌+◌, ◌*◌, ◌≤◌, ◌<◌, ◌≡◌, refl, sym, ◌∙◌, List, ◌⊎◌, inl, inr, Bool, true, false, not, ◌&&◌, ◌||◌, arith, add-one, eqb, ltb, leb, ℤ, eqb-true, ltb-true, eq-eqb, lt-ltb, le-leb}
 use native.Mathlib.Decide.{dec_lt}
-use native.Mathlib.Omega.{arith}
-use native.Mathlib.Numerals.{add-one}
-use lib.Dec.{eqb, ltb, leb}
-use lib.IntN.{ℤ}
-use borrow.Author.Tests.{eqb-true, ltb-true, eq-eqb, lt-ltb, le-leb, lt-leb}
+use borrow.Author.Tests.{lt-leb}
 use Rattle.sets.specs.Below.{all}
 use Rattle.sets.proofs.Below.{all_in}
 use Rattle.sets.proofs.Tests.{clash, bool, is_false, below, and_l, and_r, and_in, or_l, or_r, or_case}

@@ -10,13 +10,10 @@ pub fn layer(s: &[u8], k: usize, v: usize) -> usize
     requires { HasLinks s.now k }
     ensures { result ≡ layer_of s.now k v }
 {
-    let mut l = k;
-    while l > 0 {
-        let m = l - 1;
+    for m in (0..k).rev() {
         if link_first(s, m) <= v {
             return m;
         }
-        l = m;
     }
     0
 }

@@ -21,12 +21,10 @@ fn lists_pair(p: &[u8], base: usize, count: usize, x: usize, y: usize) -> bool
     requires { 0 < count → pair_bytes * (base + count) ≤ length p.now }
     ensures { result ≡ lists_pair p.now base count x y }
 {
-    let mut i = 0;
-    while i < count {
+    for i in 0..count {
         if is_pair(p, base + i, x, y) {
             return true;
         }
-        i += 1;
     }
     false
 }

@@ -15,9 +15,7 @@ fn comes_before(rs: &[u8], j: usize, a: usize, b: usize) -> bool
     requires { HasRow rule_bytes rs.now j }
     ensures { result ≡ before (rule_a rs.now j) (rule_b rs.now j) a b }
 {
-    let x = rule_a(rs, j);
-    let y = rule_b(rs, j);
-    (x < a) | ((x == a) & (y < b))
+    rule_sections::comes_before(rule_a(rs, j), rule_b(rs, j), a, b)
 }
 
 // The first rule row that does not come before the links a and b, or the number of rules; `from` is at or before it.
@@ -27,14 +25,12 @@ pub fn seek_rule(s: &[u8], a: usize, b: usize, from: usize) -> usize
 {
     let rs = rule_part(s);
     let q = rules_of(s);
-    let mut j = from;
-    while j < q {
+    for j in from..q {
         if !comes_before(rs, j, a, b) {
             return j;
         }
-        j += 1;
     }
-    j
+    q
 }
 
 // The same row, found by halving.

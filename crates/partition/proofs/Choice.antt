@@ -1,10 +1,5 @@
 -- The list handed on is the class list of the choice, and a layer fits a byte where k does.
-use mathlib.Core.Path.{◌≡◌, ap}
-use mathlib.Core.Bool.{Bool, cond}
-use mathlib.Core.List.{List}
-use Prim.Native.Nat.{ℕ, zero, suc, ◌≤◌}
-use native.Mathlib.Omega.{arith}
-use lib.Dec.{eqb, leb}
+use Rattle.std.proofs.Common.{◌≡◌, ap, Bool, cond, List, ℕ, zero, suc, ◌≤◌, arith, eqb, leb}
 use Rattle.sets.proofs.Tests.{bool}
 use Rattle.sheet_rows.specs.Rows.{link_first}
 use Rattle.pair_test.specs.Layers.{layer_of}

@@ -1,15 +1,10 @@
 -- The classes filled one after another: one vertex taken or left, one class, k classes, and the layers where a vertex
 -- is left over.
-use mathlib.Core.Path.{◌≡◌, refl, sym, ap, ◌∙◌, fun_ext}
-use mathlib.Core.Bool.{Bool, true, false, cond, ◌&&◌}
-use mathlib.Core.List.{List}
-use Prim.Native.Nat.{ℕ, zero, suc, ◌+◌, ◌≤◌, ◌<◌}
+use Rattle.std.proofs.Common.{◌≡◌, refl, sym, ap, ◌∙◌, Bool, true, false, cond, ◌&&◌, List, ℕ, zero, suc, ◌+◌, ◌≤◌, ◌<◌, arith, eqb, ltb, length, get_or, set, drop, replicate, get_or-set_same, get_or-set_other, get_or-take, get_or-drop, ext_get_or, eqb-true, eq-eqb, ne_eqb, ltb-true}
+use mathlib.Core.Path.{fun_ext}
 use native.Mathlib.Decide.{ℕ_discrete, dec_lt}
-use native.Mathlib.Omega.{arith}
-use lib.Dec.{eqb, ltb}
-use lib.ListN.{length, get_or, set, drop, replicate, get_or-replicate}
-use lib.Seq.{get_or-set_same, get_or-set_other, set_out, get_or-take, get_or-drop, ext_get_or}
-use borrow.Author.Tests.{eqb-true, eq-eqb, ne_eqb, ltb-true}
+use lib.ListN.{get_or-replicate}
+use lib.Seq.{set_out}
 use Rattle.sets.specs.Below.{all, loop, tabulate}
 use Rattle.sets.specs.Sets.{Set, ◌∪◌, just, nothing}
 use Rattle.sets.proofs.Tests.{is_false, and_l, and_r, and_in, and_false}
@@ -77,7 +72,6 @@ module _ (place : Place) where
 
   -- a loop that fills class c: the first i vertices of the order are taken or left
   pub record Filling (m c : ℕ) (p₀ p cls₀ cls : List ℕ) (i : ℕ) : Type 0 where
-    pub upto : i ≤ m
     pub long : length cls ≡ n
     pub filled : (adj : ℕ → ℕ → Bool) → Rows adj w graph n p₀ → Ordered adj n m p₀ → members n cls₀ c ≡ nothing
         → cls ≡ loop i (λ i. join n k adj c (get_or (by_degree n k adj) i 0)) cls₀
@@ -86,7 +80,6 @@ module _ (place : Place) where
 
   -- a loop that fills k classes: c are filled
   pub record FillingAll (m : ℕ) (p₀ p cls : List ℕ) (c : ℕ) : Type 0 where
-    pub upto : c ≤ k
     pub long : length cls ≡ n
     pub filled : (adj : ℕ → ℕ → Bool) → Rows adj w graph n p₀ → Ordered adj n m p₀
         → cls ≡ loop c (fill n k adj) (replicate n k)
@@ -95,7 +88,6 @@ module _ (place : Place) where
 pub filling_none : {place : Place} {m c : ℕ} {q p cls : List ℕ} → Put nothing place.w (place.n + place.n) q p
     → length cls ≡ place.n → Filling place m c p p cls cls 0
 filling_none {p = p} P l = record {
-  upto = omega arith;
   long = l;
   filled = λ adj R O e. sym (loop_none _ _);
   kept = λ e. P.here ∙ sym e;
@@ -109,7 +101,6 @@ module _ {place : Place} {m c i : ℕ} {p₀ p cls₀ cls : List ℕ} (F : Filli
   pub filling_more : {v : ℕ} {p' cls' : List ℕ} → i < m → v ≡ get_or p (n + i) 0 → Joined place c v p p' cls cls'
       → length cls' ≡ n → Filling place m c p₀ p' cls₀ cls' (i + 1)
   filling_more {v} {p'} {cls'} h q J l = record {
-    upto = omega arith;
     long = l;
     filled = λ adj R O e. J.joined adj (rows_stay S.front F.rest R) (F.kept e)
         ∙ rw (vertex adj O, F.filled adj R O e) (sym (loop_more i _ _));
@@ -122,14 +113,13 @@ module _ {place : Place} {m c i : ℕ} {p₀ p cls₀ cls : List ℕ} (F : Filli
           q ∙ F.rest.same (n + i) (λ a b. omega arith) ∙ sym (get_or-drop n p₀ i 0)
           ∙ sym (get_or-take m (drop n p₀) i 0 h) ∙ ap (λ (l : List ℕ). get_or l i 0) (O.list k)
 
-  pub filling_all : {q : List ℕ} → m ≤ i → Outside (n + n) (n + n + w) q p₀ → ClassFilled place m c q p cls₀ cls
+  pub filling_all : {q : List ℕ} → i ≡ m → Outside (n + n) (n + n + w) q p₀ → ClassFilled place m c q p cls₀ cls
   unfolding fill
   filling_all {q} h O = record {
     filled = λ adj R D e.
         let D' = order_before O D (omega arith) in
-        let a : i ≡ m = omega (arith, F.upto) in
         let b = row_length p₀ m n (omega (arith, S.front, S.rows)) in
-        let z : i ≡ length (by_degree n k adj) = a ∙ sym b ∙ ap length (D'.list k) in
+        let z : i ≡ length (by_degree n k adj) = h ∙ sym b ∙ ap length (D'.list k) in
         rw z at (F.filled adj (rows_stay S.front O R) D' e);
     rest = outside_then O F.rest;
   }
@@ -182,7 +172,6 @@ pub filling_all_none : {place : Place} {m : ℕ} {p cls : List ℕ} → length c
     → cls ≡ replicate place.n place.k
     → FillingAll place m p p cls 0
 filling_all_none {p = p} l e = record {
-  upto = omega arith;
   long = l;
   filled = λ adj R O. e ∙ sym (loop_none _ _);
   rest = outside_none _ _ p;
@@ -195,7 +184,6 @@ module _ {place : Place} {m c : ℕ} {p₀ p cls : List ℕ} (F : FillingAll pla
   pub filling_all_more : {p' cls' : List ℕ} → c < k → ClassFilled place m c p p' cls cls' → length cls' ≡ n
       → FillingAll place m p₀ p' cls' (c + 1)
   filling_all_more {p'} {cls'} h G l = record {
-    upto = omega arith;
     long = l;
     filled = λ adj R O.
         let e = F.filled adj R O in
@@ -204,10 +192,10 @@ module _ {place : Place} {m c : ℕ} {p₀ p cls : List ℕ} (F : FillingAll pla
     rest = outside_then F.rest G.rest;
   }
 
-  pub filling_all_done : k ≤ c → ClassesFilled place m p₀ p cls
+  pub filling_all_done : c ≡ k → ClassesFilled place m p₀ p cls
   unfolding greedy
   filling_all_done h = record {
-    filled = λ adj R O. let e : c ≡ k = omega (arith, F.upto) in rw e at (F.filled adj R O);
+    filled = λ adj R O. rw h at (F.filled adj R O);
     size = F.long;
     rest = F.rest;
   }

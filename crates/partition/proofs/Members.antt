@@ -1,14 +1,8 @@
 -- A class as a set of vertices: vertex by vertex, in a row of words, and against the row of a vertex.
-use mathlib.Core.Path.{◌≡◌, refl, sym, ap, ◌∙◌, fun_ext}
-use mathlib.Core.Bool.{Bool, true, false, cond, ◌&&◌, ◌||◌}
-use mathlib.Core.List.{List}
-use Prim.Native.Nat.{ℕ, ◌+◌, ◌*◌, ◌≤◌, ◌<◌}
+use Rattle.std.proofs.Common.{◌≡◌, refl, sym, ap, ◌∙◌, Bool, true, false, cond, ◌&&◌, ◌||◌, List, ℕ, ◌+◌, ◌*◌, ◌≤◌, ◌<◌, arith, eqb, ltb, length, set, get_or-set_same, get_or-set_other, eqb-true, eq-eqb, ne_eqb, lt-ltb, le-ltb, ltb-true, ltb-false}
+use mathlib.Core.Path.{fun_ext}
 use native.Mathlib.Decide.{ℕ_discrete, dec_lt}
-use native.Mathlib.Omega.{arith}
-use lib.Dec.{eqb, ltb}
-use lib.ListN.{length, set}
-use lib.Seq.{get_or-set_same, get_or-set_other}
-use borrow.Author.Tests.{eqb-true, eqb-false, eq-eqb, ne_eqb, lt-ltb, le-ltb, ltb-true, ltb-false}
+use borrow.Author.Tests.{eqb-false}
 use Rattle.sets.specs.Sets.{Set, ◌∩◌, ◌∪◌, just, nothing}
 use Rattle.sets.proofs.Tests.{clash, bool, is_false, and_l, and_r, and_in, or_r}
 use Rattle.vset.specs.Words.{Emptiness}
@@ -134,12 +128,6 @@ marked {k} {w} {at} {to} {c} {v} {p} {p'} h B P = record {
         (λ t. below P.rest w (at + d * w) (omega (arith, row_inside d c w (ltb-true d c t), B.here)))
         (λ t. let g : c < d = omega (arith, ltb-false d c t) in
         above P.rest w (at + d * w) (omega (arith, row_inside c d w g, B.here))))
-
-pub unmarked : {k w at c v : ℕ} {p : List ℕ} → k ≤ c → Marked c v k w at p p
-unmarked {k} {w} {at} {c} {v} {p} h = record {
-  rows = λ d l. rw (ne_eqb d c (λ e. omega arith));
-  rest = outside_none _ _ p;
-}
 
 -- rows that a write leaves as they were
 pub rows_stay : {adj : ℕ → ℕ → Bool} {w graph n lo hi : ℕ} {p p' : List ℕ} → hi ≤ graph → Outside lo hi p p'

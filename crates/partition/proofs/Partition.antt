@@ -1,13 +1,7 @@
 -- Every class of each choice is independent, and the caller's list is refused exactly when it is no partition.
-use mathlib.Core.Path.{◌≡◌, refl, sym, ◌∙◌}
-use mathlib.Core.Bool.{Bool, true, false, cond, ◌&&◌}
-use mathlib.Core.List.{List}
-use Prim.Native.Nat.{ℕ, ◌<◌}
-use native.Mathlib.Omega.{arith}
-use lib.Dec.{eqb, ltb}
-use lib.ListN.{length, get_or, set, take, replicate, length-set, length-replicate, get_or-replicate}
-use lib.Seq.{get_or-set_same, get_or-set_other, set_out, take_all}
-use borrow.Author.Tests.{eqb-true, eq-eqb, ltb-true, ltb-false, lt-ltb}
+use Rattle.std.proofs.Common.{◌≡◌, refl, sym, ◌∙◌, Bool, true, false, cond, ◌&&◌, List, ℕ, ◌<◌, arith, eqb, ltb, length, get_or, set, take, replicate, length-set, get_or-set_same, get_or-set_other, take_all, eqb-true, eq-eqb, ltb-true, ltb-false, lt-ltb}
+use lib.ListN.{length-replicate, get_or-replicate}
+use lib.Seq.{set_out}
 use Rattle.sets.specs.Below.{all, any, first}
 use Rattle.sets.proofs.Tests.{clash, bool, is_false, and_l, and_r, and_in, not_out, not_in}
 use Rattle.sets.proofs.Below.{all_in, all_out, any_no, first_lt, first_is, loop_keeps}

@@ -1,11 +1,5 @@
 -- The test of the caller's list: what the code owes at each place where it answers.
-use mathlib.Core.Path.{◌≡◌}
-use mathlib.Core.Bool.{Bool, true, false}
-use mathlib.Core.List.{List}
-use Prim.Native.Nat.{ℕ, ◌+◌, ◌*◌, ◌≤◌, ◌<◌}
-use lib.Dec.{ltb}
-use lib.ListN.{length}
-use borrow.Author.Tests.{eq-eqb, ne_eqb}
+use Rattle.std.proofs.Common.{◌≡◌, Bool, true, false, List, ℕ, ◌+◌, ◌*◌, ◌≤◌, ◌<◌, ltb, length, eq-eqb, ne_eqb}
 use Rattle.sets.specs.Below.{all}
 use Rattle.vset.specs.Words.{Emptiness}
 use Rattle.sets.specs.Sets.{◌∩◌}

@@ -1,7 +1,7 @@
 // Choice 1: classes filled one after another, or the layers where more than k arise.
 // The part has n degrees, then n places of the order, then the row of the class that is filled, then the graph's rows
 // from `graph` on.
-ghost use Rattle.std.specs.Prelude.{◌≡◌, ℕ, ◌+◌, ◌*◌, ◌<◌, ◌≤◌, ltb, length, get_or, set, replicate};
+ghost use Rattle.std.specs.Prelude.{◌≡◌, ℕ, ◌+◌, ◌*◌, ◌<◌, ◌≤◌, ltb, length, get_or, set};
 ghost use Rattle.sets.specs.Below.{all, tabulate};
 ghost use Rattle.sets.specs.Sets.{◌∪◌, just};
 ghost use Rattle.rows.specs.Rows.{set_at, Put};
@@ -33,7 +33,7 @@ fn try_join(part: &mut [u64], place: Place, c: usize, v: usize, cls: &mut [u8])
     if v >= n {
         return;
     }
-    if cls[v] as usize != k {
+    if usize::from(cls[v]) != k {
         return;
     }
     let a = rows::row_at(place.graph, w, v, n);
@@ -52,38 +52,21 @@ fn fill_class(part: &mut [u64], place: Place, m: usize, c: usize, cls: &mut [u8]
 {
     let n = place.n;
     rows::clear(part, place.w, n + n);
-    let mut i = 0;
-    while i < m {
+    for i in 0..m {
         let v = part[n + i] as usize;
         try_join(part, place, c, v, cls);
-        i += 1;
     }
 }
 
-// No vertex is placed: its class is k.
-fn unplace(k: usize, cls: &mut [u8])
-    requires { k < 256 }
-    ensures { cls.new ≡ replicate (length cls.old) k }
-{
-    let mut v = 0;
-    while v < cls.len() {
-        cls[v] = k as u8;
-        v += 1;
-    }
-}
-
-// k classes are filled from the m vertices of the order.
+// k classes are filled from the m vertices of the order. A vertex that is not placed has class k.
 fn fill_classes(part: &mut [u64], place: Place, m: usize, cls: &mut [u8])
     requires { BuilderRoom place (length part.old) × (length cls.old ≡ place.n) × (m ≤ place.n)
         × (place.k < 256) }
     ensures { ClassesFilled place m part.old part.new cls.new }
 {
-    let k = place.k;
-    unplace(k, cls);
-    let mut c = 0;
-    while c < k {
+    cls.fill(place.k as u8);
+    for c in 0..place.k {
         fill_class(part, place, m, c, cls);
-        c += 1;
     }
 }
 
@@ -92,10 +75,8 @@ fn keep_classes(cls: &[u8], part: &mut [u64])
     requires { length cls.now ≤ length part.old }
     ensures { Kept cls.now part.old part.new }
 {
-    let mut v = 0;
-    while v < cls.len() {
-        part[v] = cls[v] as u64;
-        v += 1;
+    for (v, class) in cls.iter().enumerate() {
+        part[v] = u64::from(*class);
     }
 }
 
@@ -104,10 +85,8 @@ fn put_back(part: &[u64], cls: &mut [u8])
     requires { (length cls.old ≤ length part.now) × ((v : ℕ) → v < length cls.old → get_or part.now v 0 < 256) }
     ensures { cls.new ≡ tabulate (length cls.old) (λ v. get_or part.now v 0) }
 {
-    let mut v = 0;
-    while v < cls.len() {
-        cls[v] = part[v] as u8;
-        v += 1;
+    for (v, class) in cls.iter_mut().enumerate() {
+        *class = part[v] as u8;
     }
 }
 
@@ -116,14 +95,7 @@ pub fn is_placed(n: usize, k: usize, cls: &[u8]) -> bool
     requires { n ≤ length cls.now }
     ensures { result ≡ all n (λ v. ltb (class_of cls.now v) k) }
 {
-    let mut v = 0;
-    while v < n {
-        if cls[v] as usize >= k {
-            return false;
-        }
-        v += 1;
-    }
-    true
+    cls[..n].iter().all(|class| usize::from(*class) < k)
 }
 
 // The classes of choice 1, where cls has the layers.

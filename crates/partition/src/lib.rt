@@ -21,15 +21,13 @@ pub use masks::put_masks;
 use pair_test::layer;
 
 // Choice 0: the class of a vertex is its layer, among k links.
-pub fn put_layers(sheet: &[u8], n: usize, k: usize, cls: &mut [u8])
-    requires { HasLinks sheet.now k × (length cls.old ≡ n) × (k < 256) }
-    ensures { cls.new ≡ layers_of n (layer_of sheet.now k) }
+pub fn put_layers(sheet: &[u8], k: usize, cls: &mut [u8])
+    requires { HasLinks sheet.now k × (k < 256) }
+    ensures { cls.new ≡ layers_of (length cls.old) (layer_of sheet.now k) }
 {
-    let mut v = 0;
-    while v < n {
+    for (v, class) in cls.iter_mut().enumerate() {
         let l = layer(sheet, k, v);
-        cls[v] = l as u8;
-        v += 1;
+        *class = l as u8;
     }
 }
 
@@ -42,7 +40,7 @@ fn is_alone(part: &[u64], place: Place, cls: &[u8], v: usize) -> bool
 {
     let w = place.w;
     let a = rows::row_at(place.graph, w, v, place.n);
-    let b = rows::row_at(place.masks, w, cls[v] as usize, place.k);
+    let b = rows::row_at(place.masks, w, usize::from(cls[v]), place.k);
     rows::is_empty_common(part, w, a, b)
 }
 
@@ -53,13 +51,10 @@ fn all_alone(part: &[u64], place: Place, cls: &[u8]) -> bool
         × (all place.n (λ v. ltb (class_of cls.now v) place.k) ≡ true) }
     ensures { AllAlone place cls.now part.now result }
 {
-    let n = place.n;
-    let mut v = 0;
-    while v < n {
+    for v in 0..place.n {
         if !is_alone(part, place, cls, v) {
             return false;
         }
-        v += 1;
     }
     true
 }
@@ -81,12 +76,14 @@ pub fn is_partition(part: &mut [u64], place: Place, cls: &[u8]) -> bool
 }
 
 // The class list of a choice: a part of the caller's list or of the built one.
+// `choice` is a number, as the caller's setting has it.
 pub fn class_list<'a>(choice: u32, callers: &'a [u8], built: &'a [u8], n: usize) -> &'a [u8]
     requires { (choice ≡ 2 → n ≤ length callers.now) × (n ≤ length built.now) }
     ensures { result.now ≡ class_list choice callers.now built.now n }
 {
     if choice == 2 {
-        return &callers[..n];
+        &callers[..n]
+    } else {
+        &built[..n]
     }
-    &built[..n]
 }

@@ -24,11 +24,8 @@ pub fn put_masks(part: &mut [u64], place: Place, at: usize, cls: &[u8])
     ensures { Masks place.n place.k cls.now place.w at
         part.old part.new }
 {
-    let n = place.n;
     rows::clear(part, place.k * place.w, at);
-    let mut v = 0;
-    while v < n {
-        add_member(part, place, at, cls[v] as usize, v);
-        v += 1;
+    for v in 0..place.n {
+        add_member(part, place, at, usize::from(cls[v]), v);
     }
 }

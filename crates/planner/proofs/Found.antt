@@ -1,4 +1,4 @@
--- No refusal has a number above 17; so the call of a plan that was found was accepted.
+-- No call is refused by a number above 17; so the call of a plan that was found was accepted.
 use mathlib.Core.Path.{◌≡◌, refl, ap}
 use mathlib.Core.Bool.{Bool, true, false}
 use Prim.Native.Nat.{ℕ, ◌≤◌}
@@ -8,6 +8,7 @@ use borrow.Author.Tests.{eqb-true, eqb-false}
 use Rattle.channels.specs.Channels.{channels_ok}
 use Rattle.sheet.specs.Sheet.{k_of}
 use Rattle.sheet.specs.Refusal.{refusal}
+use Rattle.sheet.proofs.Causes as Causes
 use Rattle.sheet.proofs.Causes.{passing_most, unless_most}
 use Rattle.sheet.proofs.Accepted.{refusal_most}
 use Rattle.rules.specs.Job.{Job}
@@ -15,7 +16,21 @@ use Rattle.setting.specs.Setting.{Setting, setting_ok}
 use Rattle.work_words.specs.Layout.{work_words}
 use Rattle.work_words.specs.Classes.{list_ok}
 use Rattle.planner.specs.Outcome.{outcome, call_refusal, setting_cause}
+use Rattle.planner.specs.Planned.{refusal_number}
+use Rattle.planner.specs.declared.Refusal.{Refusal}
+use Rattle.planner.specs.declared.Refusal.TheVariants.{Sheet, FewCells, FewWords, Channels, FewCounts}
+use Rattle.planner.specs.declared.Refusal.TheVariants as RefusedFor
 use Rattle.planner.proofs.Outcomes.{outcome_refused}
+
+-- no refusal has the number of another answer
+pub refusal_few : (r : Refusal) → refusal_number r ≤ 19
+refusal_few (Sheet cause) = omega (arith, Causes.cause_most cause)
+refusal_few RefusedFor.Setting = omega arith
+refusal_few FewCells = omega arith
+refusal_few FewWords = omega arith
+refusal_few Channels = omega arith
+refusal_few RefusedFor.List = omega arith
+refusal_few FewCounts = omega arith
 
 module _ (job : Job) (x : Setting) (m w : ℕ) where
   pub cause_most : call_refusal job x m w ≤ 17

@@ -6,12 +6,11 @@ use Prim.Native.Nat.{ℕ, ◌≤◌, ◌<◌}
 use native.Mathlib.Omega.{arith}
 use lib.ListN.{length}
 use borrow.Author.Tests.{ne_eqb, le-leb, lt-leb}
+use Rattle.std.proofs.Common.{Err}
 use Rattle.channels.specs.Channels.{channels_ok}
 use Rattle.sheet.specs.Sheet.{k_of}
-use Rattle.sheet.specs.Refusal.{number_of, refusal, unless}
+use Rattle.sheet.specs.Refusal.{cause_number, refusal, unless}
 use Rattle.sheet.specs.declared.Cause.{Cause}
-use Rattle.sheet.specs.declared.Reading.{Reading}
-use Rattle.sheet.specs.declared.Reading.TheVariants as ReadingIs
 use Rattle.sheet.proofs.Causes.{cause_some}
 use Rattle.rules.specs.Job.{Job}
 use Rattle.search.specs.Limit.{answer}
@@ -22,11 +21,9 @@ use Rattle.work_words.specs.Layout.{work_words}
 use Rattle.work_words.specs.Classes.{list_ok}
 use Rattle.planner.specs.Outcome.{Outcome, setting_cause, call_refusal, tree_of, outcome_of, refused, unless_refused}
 use Rattle.planner.specs.Outcome.{outcome}
-use Rattle.planner.specs.Planned.{verdict_number, FirstCause, Gives, Ready, gave}
-use Rattle.planner.specs.declared.Asked.TheVariants.{Refused}
-use Rattle.planner.specs.declared.Planned.{Planned}
-use Rattle.planner.specs.declared.Verdict.{Verdict}
-use Rattle.planner.specs.declared.Verdict.TheVariants.{BadSheet}
+use Rattle.planner.specs.Planned.{Planned, refusal_number, FirstCause, Gives, Ready, gave}
+use Rattle.planner.specs.declared.Refusal.{Refusal}
+use Rattle.planner.specs.declared.Refusal.TheVariants.{Sheet}
 
 -- what was given is the outcome
 pub gave_outcome : {o : Outcome} {r : Planned} {cells : List ℕ} → Gives o r cells → o ≡ gave r cells
@@ -84,21 +81,18 @@ module _ (job : Job) (x : Setting) (m w : ℕ) where
   outcome_accepted e = ap (λ c. unless_refused c m (λ _. outcome_of job m (answer x.limit (tree_of job x)))) e
 
   -- a refusal: its number, 0 nodes and zero cells
-  pub gives_refused : (v : Verdict) (c : ℕ) {p : Planned} {cells : List ℕ} → call_refusal job x m w ≡ c → 0 < c
-      → verdict_number v ≡ c → p ≡ record { verdict = v; nodes = 0 } → cells ≡ zeros m
-      → Gives (outcome job x m w) p cells
-  gives_refused v c {p} {cells} e h q y z =
-      subst (λ o. Gives o p cells) (sym (outcome_refused (λ i. omega arith)))
-      (record { answer = ap (λ y. verdict_number y.verdict) y ∙ q ∙ sym e; nodes = ap (λ y. y.nodes) y; cells = z })
+  pub gives_refused : (r : Refusal) {cells : List ℕ} → call_refusal job x m w ≡ refusal_number r → 0 < refusal_number r
+      → cells ≡ zeros m → Gives (outcome job x m w) (Err r) cells
+  gives_refused r {cells} e h z =
+      subst (λ o. Gives o (Err r) cells) (sym (outcome_refused (λ i. omega arith)))
+      (record { answer = sym e; nodes = refl; cells = z })
 
 -- the reader has refused the sheet, whatever else is lent
-pub sheet_refused : (job : Job) (options : Options) (m w : ℕ) {reading : Reading} {cause : Cause}
-    → number_of reading ≡ refusal job.sheet → reading ≡ ReadingIs.Refused cause
-    → FirstCause job options m w (Refused (BadSheet cause))
-sheet_refused job options m w {cause = cause} e t =
-    let n = sym (ap number_of t) ∙ e in
+pub sheet_refused : (job : Job) (options : Options) (m w : ℕ) (cause : Cause) → cause_number cause ≡ refusal job.sheet
+    → FirstCause job options m w (Err (Sheet cause))
+sheet_refused job options m w cause e =
     let l = cause_some cause in
-    (l, λ on callers. sheet_cause job (setting_with on options callers) m w (λ i. omega arith) ∙ sym n)
+    (l, λ on callers. sheet_cause job (setting_with on options callers) m w (λ i. omega arith) ∙ sym e)
 
 -- a call that has passed causes 1 to 11, 16 and 17, up to the caller's list
 module _ {job : Job} {x : Setting} {chosen : ℕ} {cells : List ℕ} {w : ℕ} (R : Ready job x chosen cells w)

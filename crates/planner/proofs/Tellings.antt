@@ -1,12 +1,13 @@
 -- From the words that are filled and the search that was run to the outcome of the call.
 use mathlib.Core.Path.{◌≡◌, refl, sym, ap, subst, ◌∙◌}
-use mathlib.Core.Bool.{Bool, true, false, not}
+use mathlib.Core.Bool.{Bool, true, false}
 use mathlib.Core.List.{List}
 use Prim.Native.Nat.{ℕ, ◌-◌, ◌≤◌, ◌<◌}
 use native.Mathlib.Omega.{arith}
 use lib.Dec.{eqb, leb, ltb, lit<}
 use lib.ListN.{length}
-use borrow.Author.Tests.{ltb-true, not-true, not-false}
+use borrow.Author.Tests.{ltb-true}
+use Rattle.std.proofs.Common.{Ok, Err}
 use Rattle.sets.specs.Below.{any}
 use Rattle.sets.proofs.Tests.{bool, case}
 use Rattle.sets.proofs.Below.{any_same}
@@ -34,12 +35,12 @@ use Rattle.search.proofs.Setting.{tree_good}
 use Rattle.cells.specs.Cells.{chosen_by, cell_of, plan_cells, Chosen}
 use Rattle.setting.specs.Setting.{Setting}
 use Rattle.work_words.specs.Layout.{LaidOut}
-use Rattle.work_words.specs.Classes.{classes_of, graph_in}
+use Rattle.work_words.specs.Classes.{list_ok, classes_of, graph_in}
 use Rattle.work_words.specs.Filled.{Filled}
 use Rattle.planner.specs.Outcome.{outcome_of, tree_of, outcome}
 use Rattle.planner.specs.Planned.{Gives, Ready, Finished}
-use Rattle.planner.specs.declared.Planned.{Planned}
-use Rattle.planner.specs.declared.Verdict as CallVerdict
+use Rattle.planner.specs.declared.Refusal.{Refusal}
+use Rattle.planner.specs.declared.Refusal.TheVariants as RefusedFor
 use Rattle.planner.proofs.Outcomes.{outcome_accepted, gives_refused, ready_accepted, ready_refused}
 
 -- a property of an answer's plan, if any
@@ -87,38 +88,35 @@ module _ (job : Job) (A : Accepted job.sheet) (cls : ℕ → ℕ) (on : Bool) wh
       (λ e. rw e refl))
 
   -- what was finished is what the answer says
-  finished_gives : (a : Answer) (c c' cells : List ℕ) (m : ℕ) (out : RunOutcome) (r : Planned) → Tells out a
+  finished_gives : (a : Answer) (c c' cells : List ℕ) (m : ℕ) (out : RunOutcome) → Tells out a
       → AllOf (Clique (graph_of job cls) 0 (unstruck job)) a → Cells on 0 (k_of job.sheet) c c' a
-      → Finished job.sheet c' out m cells r
-      → Gives (outcome_of job m a) r cells
-  finished_gives (plan p t) c c' cells m out r T C L F = record {
-    answer = F.number ∙ T.number;
-    nodes = F.nodes ∙ T.nodes;
+      → Finished job.sheet c' out.verdict m cells
+      → Gives (outcome_of job m a) (Ok out) cells
+  finished_gives (plan p t) c c' cells m out T C L F = record {
+    answer = T.number;
+    nodes = T.nodes;
     cells = F.found T.number ∙ cells_same p c' m C (λ j h. L.here j (omega arith) h);
   }
-  finished_gives (none t) c c' cells m out r T C L F =
+  finished_gives (none t) c c' cells m out T C L F =
       let e = T.number in
-      record { answer = F.number ∙ T.number; nodes = F.nodes ∙ T.nodes; cells = F.other (λ h. omega arith) }
-  finished_gives (stopped t) c c' cells m out r T C L F =
+      record { answer = T.number; nodes = T.nodes; cells = F.other (λ h. omega arith) }
+  finished_gives (stopped t) c c' cells m out T C L F =
       let e = T.number in
-      record { answer = F.number ∙ T.number; nodes = F.nodes ∙ T.nodes; cells = F.other (λ h. omega arith) }
+      record { answer = T.number; nodes = T.nodes; cells = F.other (λ h. omega arith) }
 
 -- the search of words that are filled
-module _ {job : Job} {x : Setting} {place : Place} {layers : ℕ} {p p' c c' : List ℕ} {r : Bool} {out : RunOutcome}
-    (A : Accepted job.sheet) (links : place.k ≡ k_of job.sheet) (F : Filled job x place layers p r)
-    (e : not r ≡ false) (S : Searched x.counts x.filter place layers x.limit p p' c c' out) where
+module _ {job : Job} {x : Setting} {place : Place} {layers : ℕ} {p p' c c' : List ℕ} {out : RunOutcome}
+    (A : Accepted job.sheet) (links : place.k ≡ k_of job.sheet) (F : Filled job x place layers p true)
+    (S : Searched x.counts x.filter place layers x.limit p p' c c' out) where
   -- the class of each vertex
   abbrev cls : ℕ → ℕ
   cls = unless_struck job (class_of (classes_of job x))
 
-  pub yes : r ≡ true
-  yes = not-false r e
-
   pub tells : Tells out (answer x.limit (tree_of job x))
   unfolding tree_of
   tells = subst (λ L. Tells out (answer x.limit (tree x.counts x.filter (graph_in job x) (layer job) L)))
-      (F.root yes)
-      (S.says (graph_in job x) (layer job) (F.by_class_is yes) (F.by_layer_is yes))
+      (F.root refl)
+      (S.says (graph_in job x) (layer job) (F.by_class_is refl) (F.by_layer_is refl))
 
   cells_are : Cells x.counts 0 (k_of job.sheet) c c' (answer x.limit (tree_of job x))
   unfolding tree_of
@@ -126,7 +124,7 @@ module _ {job : Job} {x : Setting} {place : Place} {layers : ℕ} {p p' c c' : L
       (answer x.limit (tree x.counts x.filter (graph_in job x) (layer job) (unstruck job)))) links
       (subst (λ L. Cells x.counts 0 place.k c c'
       (answer x.limit (tree x.counts x.filter (graph_in job x) (layer job) L)))
-      (F.root yes) (S.cells (graph_in job x) (layer job) (F.by_class_is yes) (F.by_layer_is yes)))
+      (F.root refl) (S.cells (graph_in job x) (layer job) (F.by_class_is refl) (F.by_layer_is refl)))
 
   good : AllOf (Clique (graph_in job x) 0 (unstruck job)) (answer x.limit (tree_of job x))
   unfolding tree_of
@@ -139,23 +137,20 @@ module _ {job : Job} {x : Setting} {place : Place} {layers : ℕ} {p p' c c' : L
   search_chosen h long = chosen_from job A cls x.counts (answer x.limit (tree_of job x)) c c'
       (sym tells.number ∙ h) good cells_are long
 
-  pub search_gives : {chosen w : ℕ} {zeroed cells : List ℕ} {o : Planned} → Ready job x chosen zeroed w
-      → Finished job.sheet c' out (length zeroed) cells o → Gives (outcome job x (length zeroed) w) o cells
-  search_gives {w = w} {zeroed} {cells} {o} R X =
-      rw (outcome_accepted job x (length zeroed) w (ready_accepted R (sym F.list ∙ yes)))
-      (finished_gives job A cls x.counts (answer x.limit (tree_of job x)) c c' cells (length zeroed) out o
+  pub search_gives : {chosen w : ℕ} {zeroed cells : List ℕ} → Ready job x chosen zeroed w
+      → Finished job.sheet c' out.verdict (length zeroed) cells → Gives (outcome job x (length zeroed) w) (Ok out) cells
+  search_gives {w = w} {zeroed} {cells} R X =
+      rw (outcome_accepted job x (length zeroed) w (ready_accepted R (sym F.list)))
+      (finished_gives job A cls x.counts (answer x.limit (tree_of job x)) c c' cells (length zeroed) out
       tells good cells_are X)
 
 -- the caller's list is refused
-pub list_gives : {job : Job} {x : Setting} {place : Place} {layers chosen w : ℕ} {p cells : List ℕ} {r : Bool}
-    {o : Planned}
-    → Ready job x chosen cells w → Filled job x place layers p r → not r ≡ true
-    → o ≡ record { verdict = CallVerdict.TheVariants.BadList; nodes = 0 }
-    → Gives (outcome job x (length cells) w) o cells
-list_gives {job} {x} {w = w} {cells = cells} {r} R F e v =
-    gives_refused job x (length cells) w CallVerdict.TheVariants.BadList 12
-    (ready_refused R (sym F.list ∙ not-true r e))
-    (lit< tt) refl v R.zero
+pub list_gives : {job : Job} {x : Setting} {chosen w : ℕ} {cells : List ℕ} {r : Refusal}
+    → Ready job x chosen cells w → r ≡ RefusedFor.List → list_ok job x ≡ false
+    → Gives (outcome job x (length cells) w) (Err r) cells
+list_gives {job} {x} {w = w} {cells = cells} R e f =
+    subst (λ r. Gives (outcome job x (length cells) w) (Err r) cells) (sym e)
+    (gives_refused job x (length cells) w RefusedFor.List (ready_refused R f) (lit< tt) R.zero)
 
 -- the room of the search, in words whose number has stayed
 pub search_room : {place : Place} {layers len : ℕ} → LaidOut place layers len → place.n ≤ most_freqs

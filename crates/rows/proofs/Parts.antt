@@ -1,14 +1,13 @@
 -- A part of a list of words that was lent and is back: one row, or the words from a place on.
-use Prim.Native.Nat.{ℕ, ◌+◌, ◌-◌, ◌≤◌, ◌<◌}
-use mathlib.Core.List.{List}
-use mathlib.Core.Path.{◌≡◌, sym, ap, ◌∙◌, subst}
+use Rattle.std.proofs.Common.{ℕ, ◌+◌, ◌-◌, ◌≤◌, ◌<◌, List, ◌≡◌, sym, ap, ◌∙◌, subst, arith, replicate, length, get_or, take, drop, length-take, length-drop, take_all, drop-drop, length-take-le, get_or-append-add, get_or-take, get_or-drop, ext_get_or}
 use native.Mathlib.Decide.{dec_lt}
-use native.Mathlib.Omega.{arith}
 use borrow.Rule.Slice.PartMut.{mid_of, put_mid, same_len_mid}
-use lib.ListN.{length, get_or, take, drop, length-take, length-drop, get_or-append}
-use lib.Seq.{take_all, drop-drop, length-take-le, get_or-append-add, get_or-take, get_or-drop, ext_get_or}
-use Rattle.sets.specs.Sets.{Set}
+use Rattle.std.proofs.Math.ListN.{length-replicate}
+use Rattle.std.proofs.lemmas.List.{get_or-replicate}
+use Rattle.std.proofs.Math.ListN.{get_or-append}
+use Rattle.sets.specs.Sets.{Set, nothing}
 use Rattle.vset.specs.Words.{has}
+use Rattle.vset.proofs.Words.{row_keeps, word_nothing, ends_nothing}
 use Rattle.rows.specs.Rows.{set_at, Outside, Put}
 use Rattle.rows.proofs.Rows.{row_length}
 
@@ -101,3 +100,10 @@ module _ (a : ℕ) (p : List ℕ) (fits : a ≤ length p) where
           ∙ mid_inside a (length p - a) p ys (omega arith) long i (omega arith)
           ∙ x.same i (λ u v. h (omega arith) (omega arith)) ∙ ap (λ (l : List ℕ). get_or l i 0) tail_is
           ∙ get_or-drop a p i 0 ∙ ap (λ (x : ℕ). get_or p x 0) (sym e)
+
+-- a row of zeros is empty
+pub zeros_nothing : (n : ℕ) → has (replicate n 0) ≡ nothing
+zeros_nothing n =
+    row_keeps (replicate n 0) nothing
+    (λ j l. let m : j < n = omega (arith, length-replicate {A = ℕ} n 0) in rw (get_or-replicate {A = ℕ} n j 0 0 m) (word_nothing j))
+    (ends_nothing _)

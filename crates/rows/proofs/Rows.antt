@@ -1,21 +1,14 @@
 -- Laws of sets that lie in rows of one list of words: where a row lies, what a write leaves as it was, and a loop that
 -- writes a row.
-use Prim.Native.Nat.{ℕ, suc, ◌+◌, ◌-◌, ◌*◌, ◌/◌, ◌%◌, ◌^◌, ◌≤◌, ◌<◌}
-use mathlib.Core.Bool.{true, false}
-use mathlib.Core.List.{List}
-use mathlib.Core.Path.{◌≡◌, refl, ap, ◌∙◌}
+use Rattle.std.proofs.Common.{ℕ, suc, ◌+◌, ◌-◌, ◌*◌, ◌/◌, ◌%◌, ◌^◌, ◌≤◌, ◌<◌, true, false, List, ◌≡◌, refl, ap, ◌∙◌, mul-le-mul_right, suc-mul, arith, below_more, length, get_or, set, take, drop, length-set, length-take, length-drop, get_or-set_same, get_or-set_other, get_or-take, get_or-drop, ext_get_or}
 use native.Mathlib.Decide.{ℕ_discrete, dec_lt}
-use native.Mathlib.Nat.{mul-le-mul_right, suc-mul}
-use native.Mathlib.Omega.{arith}
 use lib.Bits.{bit_and, bit_or}
-use lib.ListN.{length, get_or, set, take, drop, length-set, length-take, length-drop}
-use lib.Seq.{get_or-set_same, get_or-set_other, get_or-take, get_or-drop, ext_get_or}
 use Rattle.sets.specs.Sets.{Set, ◌∩◌, ◌∪◌, ◌∖◌}
 use Rattle.sets.proofs.Tests.{clash}
 use Rattle.vset.specs.Words.{has}
 use Rattle.vset.proofs.Words.{Ends, Word, word_has, word_meet, word_join, word_cut, row_keeps, ends_has, ends_wide}
 use Rattle.vset.proofs.Words.{ends_meet, ends_join, ends_cut}
-use Rattle.rows.specs.Rows.{set_at, Outside, Reads, Put}
+use Rattle.rows.specs.Rows.{set_at, Outside, Reads, Combined, Put}
 
 -- row v of n rows lies inside: the one place with a product of two unknowns
 pub row_inside : (v n w : ℕ) → v < n → v * w + w ≤ n * w
@@ -91,53 +84,51 @@ pub word_at_row : (p : List ℕ) (w a i : ℕ) → i < w → Word (set_at p w a)
 unfolding set_at
 word_at_row p w a i h = rw (get_or-take w (drop a p) i 0 h, get_or-drop) at (word_has (take w (drop a p)) i)
 
--- a loop that writes a row: its words below i keep S, and no other word has changed
+-- a loop that makes a row of two others, word by word
 
-pub record Filling (S : Set) (w to : ℕ) (p₀ p : List ℕ) (i : ℕ) : Type 0 where
-  pub upto : i ≤ w
-  pub past : (j : ℕ) → j < i → Word S j (get_or p (to + j) 0)
-  pub rest : Outside to (to + i) p₀ p
+pub combined_none : (P : ℕ → ℕ → ℕ → Type 0) (to a b : ℕ) (p : List ℕ) → Combined P to a b p p 0
+combined_none P to a b p = record { past = λ j h. absurd (omega arith); small = λ j h. absurd (omega arith); rest = outside_none _ _ p }
 
-pub filling_none : (S : Set) (w to : ℕ) (p : List ℕ) → Filling S w to p p 0
-filling_none S w to p = record { upto = omega arith; past = λ j h. absurd (omega arith); rest = outside_none _ _ p }
+module _ {P : ℕ → ℕ → ℕ → Type 0} {to a b : ℕ} {p₀ p : List ℕ} {i : ℕ} (C : Combined P to a b p₀ p i) where
+  -- a word that is read and not written yet
+  unwritten : (w c : ℕ) → i < w → Reads w to c (length p₀) → get_or p (c + i) 0 ≡ get_or p₀ (c + i) 0
+  unwritten w c h R = C.rest.same (c + i) (go (dec_lt c to))
+    where
+      go : Dec (c < to) → to ≤ c + i → c + i < to + i → ⊥
+      go (yes l) m n = let r = R.clear l in omega arith
+      go (no l) m n = omega arith
 
-pub filling_more : {S : Set} {w to : ℕ} {p₀ p : List ℕ} {i : ℕ} (x : ℕ) → Filling S w to p₀ p i → i < w
-    → to + w ≤ length p₀ → Word S i x
-    → Filling S w to p₀ (set p (to + i) x) (i + 1)
-filling_more {S} {w} {to} {p₀} {p} {i} x F h fits W = record {
-  upto = omega arith;
-  past = λ j l. go j l (ℕ_discrete j i);
-  rest = record {
-    len = simp length-set F.rest.len;
-    same = λ j l. get_or-set_other p (to + i) j x 0 (λ e. l (omega arith) (omega arith))
-        ∙ F.rest.same j (λ a b. l a (omega arith));
-  };
-}
-  where
-    go : (j : ℕ) → j < i + 1 → Dec (j ≡ i) → Word S j (get_or (set p (to + i) x) (to + j) 0)
-    go j l (yes e) = let r : to + i < length p = omega (arith, F.rest.len) in rw (e, get_or-set_same) W
-    go j l (no n) = rw (get_or-set_other p (to + i) (to + j) x 0 (λ e. n (omega arith))) (F.past j (omega arith))
+  -- one word more
+  pub combined_more : (w x : ℕ) → i < w → to + w ≤ length p₀ → Reads w to a (length p₀) → Reads w to b (length p₀)
+      → get_or p (b + i) 0 < 2 ^ 64 → P (get_or p (a + i) 0) (get_or p (b + i) 0) x
+      → Combined P to a b p₀ (set p (to + i) x) (i + 1)
+  combined_more w x h fits A B short made = record {
+    past = λ j l. go j l (ℕ_discrete j i);
+    small = below_more _ _ C.small (rw (← unwritten w b h B) short);
+    rest = record {
+      len = simp length-set C.rest.len;
+      same = λ j l. get_or-set_other p (to + i) j x 0 (λ e. l (omega arith) (omega arith))
+          ∙ C.rest.same j (λ m n. l m (omega arith));
+    };
+  }
+    where
+      go : (j : ℕ) → j < i + 1 → Dec (j ≡ i)
+          → P (get_or p₀ (a + j) 0) (get_or p₀ (b + j) 0) (get_or (set p (to + i) x) (to + j) 0)
+      go j l (yes e) =
+          let r : to + i < length p = omega (arith, C.rest.len) in
+          rw (e, get_or-set_same, ← unwritten w a h A, ← unwritten w b h B) made
+      go j l (no n) = rw (get_or-set_other p (to + i) (to + j) x 0 (λ e. n (omega arith))) (C.past j (omega arith))
 
--- a word that is read and not written yet
-pub filling_read : {S : Set} {w to : ℕ} {p₀ p : List ℕ} {i : ℕ} (a : ℕ) → Filling S w to p₀ p i → i < w
-    → Reads w to a (length p₀)
-    → Word (set_at p₀ w a) i (get_or p (a + i) 0)
-filling_read {S} {w} {to} {p₀} {p} {i} a F h R = rw (F.rest.same (a + i) (go (dec_lt a to))) (word_at_row p₀ w a i h)
-  where
-    go : Dec (a < to) → to ≤ a + i → a + i < to + i → ⊥
-    go (yes l) b c = let r = R.clear l in omega arith
-    go (no n) b c = omega arith
-
-pub filling_all : {S : Set} {w to : ℕ} {p₀ p : List ℕ} {i : ℕ} → Filling S w to p₀ p i → w ≤ i → to + w ≤ length p₀
-    → Ends S (64 * w) → Put S w to p₀ p
+-- the row at `to` keeps S where each of its words does
+pub put_words : {S : Set} {w to : ℕ} {p₀ p : List ℕ} → ((j : ℕ) → j < w → Word S j (get_or p (to + j) 0))
+    → Outside to (to + w) p₀ p → to + w ≤ length p₀ → Ends S (64 * w) → Put S w to p₀ p
 unfolding set_at
-filling_all {S} {w} {to} {p₀} {p} {i} F h fits E =
-    let n : length (take w (drop to p)) ≡ w = simp (length-take, length-drop) (omega (arith, F.rest.len)) in
+put_words {S} {w} {to} {p₀} {p} W O fits E =
+    let n : length (take w (drop to p)) ≡ w = simp (length-take, length-drop) (omega (arith, O.len)) in
     record {
       here = row_keeps (take w (drop to p)) S
-          (λ j l. let m : j < w = omega arith in rw (get_or-take, get_or-drop) (F.past j (omega (arith, F.upto))))
-          (rw n E);
-      rest = outside_wide to (to + w) (omega arith) (omega (arith, F.upto)) F.rest;
+          (λ j l. let m : j < w = omega arith in rw (get_or-take, get_or-drop) (W j m)) (rw n E);
+      rest = O;
     }
 
 -- an operation on two sets that goes word by word: g makes of two words what f makes of the sets
@@ -155,17 +146,15 @@ joining = record { word = λ S T i x y p q b. word_join p q; ends = λ S T n p q
 pub cutting : Wordwise ◌∖◌ (λ x y. bit_and x (2 ^ 64 - 1 - y))
 cutting = record { word = λ S T i x y p q b. word_cut p q b; ends = λ S T n p q. ends_cut p T }
 
--- the loop `while i < w { part[to + i] = g(part[a + i], part[b + i]); i += 1; }`: one word more, all words
-module _ {f : Set → Set → Set} {g : ℕ → ℕ → ℕ} (G : Wordwise f g) {w to a b : ℕ} {p₀ p : List ℕ} {i : ℕ}
-    (F : Filling (f (set_at p₀ w a) (set_at p₀ w b)) w to p₀ p i)
-    (pre : (to + w ≤ length p₀) × (Reads w to a (length p₀) × Reads w to b (length p₀))) where
-  pub wordwise_more : i < w → get_or p (b + i) 0 < 2 ^ 64
-      → Filling (f (set_at p₀ w a) (set_at p₀ w b)) w to p₀ (set p (to + i) (g (get_or p (a + i) 0) (get_or p (b + i) 0)))
-      (i + 1)
-  wordwise_more h fits =
-      filling_more _ F h pre.0 (G.word (set_at p₀ w a) (set_at p₀ w b) i _ _ (filling_read a F h pre.1.0)
-      (filling_read b F h pre.1.1) fits)
+pub copying : Wordwise (λ S T. S) (λ x y. x)
+copying = record { word = λ S T i x y p q b. p; ends = λ S T n p q. p }
 
-  pub wordwise_all : w ≤ i → Put (f (set_at p₀ w a) (set_at p₀ w b)) w to p₀ p
-  wordwise_all h = filling_all F h pre.0 (G.ends (set_at p₀ w a) (set_at p₀ w b) (64 * w) (ends_set p₀ w a)
-      (ends_set p₀ w b))
+-- a row that is made so keeps what the operation makes of the sets
+pub put_combined : {f : Set → Set → Set} {g : ℕ → ℕ → ℕ} {P : ℕ → ℕ → ℕ → Type 0} {w to a b : ℕ} {p₀ p : List ℕ}
+    → Wordwise f g → ((x y r : ℕ) → P x y r → r ≡ g x y) → Combined P to a b p₀ p w
+    → to + w ≤ length p₀ → Put (f (set_at p₀ w a) (set_at p₀ w b)) w to p₀ p
+put_combined {f} {g} {P} {w} {to} {a} {b} {p₀} {p} G gives C fits =
+    put_words
+    (λ j l. rw (gives _ _ _ (C.past j l)) (G.word (set_at p₀ w a) (set_at p₀ w b) j _ _ (word_at_row p₀ w a j l)
+    (word_at_row p₀ w b j l) (C.small j l)))
+    C.rest fits (G.ends (set_at p₀ w a) (set_at p₀ w b) (64 * w) (ends_set p₀ w a) (ends_set p₀ w b))

@@ -1,6 +1,6 @@
 -- Rows inside one part of the work words: "Sets of vertices are 64-bit words, one bit a vertex", a set in w words of it
 -- from a place on.
-use Rattle.std.specs.Prelude.{◌≡◌, List, ℕ, ◌+◌, ◌*◌, ◌≤◌, ◌<◌, length, get_or, take, drop}
+use Rattle.std.specs.Prelude.{◌≡◌, List, ℕ, ◌+◌, ◌*◌, ◌^◌, ◌≤◌, ◌<◌, length, get_or, take, drop}
 use Rattle.sets.specs.Sets.{Set}
 use Rattle.vset.specs.Words.{has}
 
@@ -26,6 +26,12 @@ pub record Outside (lo hi : ℕ) (p p' : List ℕ) : Type 0 where
 pub record Reads (w to a len : ℕ) : Type 0 where
   pub fits : a + w ≤ len
   pub clear : a < to → a + w ≤ to
+
+-- of the row at `to` the first i words are what P says of the words of the rows at a and b, and no other word has changed
+pub record Combined (P : ℕ → ℕ → ℕ → Type 0) (to a b : ℕ) (p p' : List ℕ) (i : ℕ) : Type 0 where
+  pub past : (j : ℕ) → j < i → P (get_or p (a + j) 0) (get_or p (b + j) 0) (get_or p' (to + j) 0)
+  pub small : (j : ℕ) → j < i → get_or p (b + j) 0 < 2 ^ 64
+  pub rest : Outside to (to + i) p p'
 
 -- S was written to the row at `to`, and nothing else was
 pub record Put (S : Set) (w to : ℕ) (p p' : List ℕ) : Type 0 where

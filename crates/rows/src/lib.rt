@@ -7,7 +7,7 @@ ghost use Rattle.std.specs.Prelude.{◌≡◌, ◌+◌, ◌*◌, ◌^◌, ◌<�
 ghost use Rattle.sets.specs.Below.{count};
 ghost use Rattle.sets.specs.Sets.{◌∩◌, ◌∪◌, ◌∖◌, just, nothing};
 ghost use Rattle.vset.specs.Words.{Least, Emptiness};
-ghost use Rattle.rows.specs.Rows.{set_at, Begins, Reads, Put};
+ghost use Rattle.rows.specs.Rows.{set_at, Begins, Reads, Put, Combined};
 
 // Where row v begins, of n rows of w words from `at` on.
 pub fn row_at(at: usize, w: usize, v: usize, n: usize) -> usize
@@ -17,49 +17,43 @@ pub fn row_at(at: usize, w: usize, v: usize, n: usize) -> usize
     at + v * w
 }
 
+// Row `to` becomes, word by word, what `of` makes of the words of rows a and b.
+fn combine<F: Fn(u64, u64) -> u64>(part: &mut [u64], w: usize, to: usize, a: usize, b: usize, of: F)
+    requires w_in_bounds { to + w ≤ length part.old }
+    requires reads { Reads w to a (length part.old) × Reads w to b (length part.old) }
+    requires callable { F.IsAlwaysCallable of }
+    ensures { Combined (F.post of) to a b part.old part.new w }
+{
+    for i in 0..w {
+        part[to + i] = of(part[a + i], part[b + i]);
+    }
+}
+
 // Row `to` becomes what rows a and b have in common.
 pub fn meet(part: &mut [u64], w: usize, to: usize, a: usize, b: usize)
     requires w_in_bounds { to + w ≤ length part.old }
     requires reads { Reads w to a (length part.old) × Reads w to b (length part.old) }
-    ensures { Put (set_at part.old w a ∩ set_at part.old w b) w to part.old
-        part.new }
+    ensures { Put (set_at part.old w a ∩ set_at part.old w b) w to part.old part.new }
 {
-    let mut i = 0;
-    while i < w {
-        let x = part[a + i] & part[b + i];
-        part[to + i] = x;
-        i += 1;
-    }
+    combine(part, w, to, a, b, |x, y| x & y);
 }
 
 // Row `to` becomes what row a or row b has.
 pub fn join(part: &mut [u64], w: usize, to: usize, a: usize, b: usize)
     requires w_in_bounds { to + w ≤ length part.old }
     requires reads { Reads w to a (length part.old) × Reads w to b (length part.old) }
-    ensures { Put (set_at part.old w a ∪ set_at part.old w b) w to part.old
-        part.new }
+    ensures { Put (set_at part.old w a ∪ set_at part.old w b) w to part.old part.new }
 {
-    let mut i = 0;
-    while i < w {
-        let x = part[a + i] | part[b + i];
-        part[to + i] = x;
-        i += 1;
-    }
+    combine(part, w, to, a, b, |x, y| x | y);
 }
 
 // Row `to` becomes what row a has and row b has not.
 pub fn cut(part: &mut [u64], w: usize, to: usize, a: usize, b: usize)
     requires w_in_bounds { to + w ≤ length part.old }
     requires reads { Reads w to a (length part.old) × Reads w to b (length part.old) }
-    ensures { Put (set_at part.old w a ∖ set_at part.old w b) w to part.old
-        part.new }
+    ensures { Put (set_at part.old w a ∖ set_at part.old w b) w to part.old part.new }
 {
-    let mut i = 0;
-    while i < w {
-        let x = part[a + i] & !part[b + i];
-        part[to + i] = x;
-        i += 1;
-    }
+    combine(part, w, to, a, b, |x, y| x & !y);
 }
 
 // Row `to` becomes row a.
@@ -68,12 +62,7 @@ pub fn copy(part: &mut [u64], w: usize, to: usize, a: usize)
     requires reads { Reads w to a (length part.old) }
     ensures { Put (set_at part.old w a) w to part.old part.new }
 {
-    let mut i = 0;
-    while i < w {
-        let x = part[a + i];
-        part[to + i] = x;
-        i += 1;
-    }
+    combine(part, w, to, a, a, |x, _| x);
 }
 
 // Row `to` becomes empty.
@@ -81,11 +70,7 @@ pub fn clear(part: &mut [u64], w: usize, to: usize)
     requires { to + w ≤ length part.old }
     ensures { Put nothing w to part.old part.new }
 {
-    let mut i = 0;
-    while i < w {
-        part[to + i] = 0;
-        i += 1;
-    }
+    part[to..to + w].fill(0);
 }
 
 // Vertex v is added to row `to`.
@@ -93,8 +78,7 @@ pub fn insert(part: &mut [u64], w: usize, to: usize, v: usize)
     requires { (to + w ≤ length part.old) × (v < 64 * w) }
     ensures { Put (set_at part.old w to ∪ just v) w to part.old part.new }
 {
-    let e = to + w;
-    vset::insert(&mut part[to..e], v);
+    vset::insert(&mut part[to..to + w], v);
 }
 
 // Vertex v is taken from row `to`.
@@ -102,8 +86,7 @@ pub fn remove(part: &mut [u64], w: usize, to: usize, v: usize)
     requires { (to + w ≤ length part.old) × (v < 64 * w) }
     ensures { Put (set_at part.old w to ∖ just v) w to part.old part.new }
 {
-    let e = to + w;
-    vset::remove(&mut part[to..e], v);
+    vset::remove(&mut part[to..to + w], v);
 }
 
 // Whether rows a and b have nothing in common.
@@ -111,9 +94,7 @@ pub fn is_empty_common(part: &[u64], w: usize, a: usize, b: usize) -> bool
     requires { (a + w ≤ length part.now) × (b + w ≤ length part.now) }
     ensures { Emptiness (set_at part.now w a ∩ set_at part.now w b) result }
 {
-    let e = a + w;
-    let f = b + w;
-    vset::is_empty_common(&part[a..e], &part[b..f])
+    vset::is_empty_common(&part[a..a + w], &part[b..b + w])
 }
 
 // How many vertices rows a and b have in common.
@@ -121,9 +102,7 @@ pub fn size_common(part: &[u64], w: usize, a: usize, b: usize) -> usize
     requires { (a + w ≤ length part.now) × (b + w ≤ length part.now) × (64 * w < 2 ^ 64) }
     ensures { result ≡ count (64 * w) (set_at part.now w a ∩ set_at part.now w b) }
 {
-    let e = a + w;
-    let f = b + w;
-    vset::size_common(&part[a..e], &part[b..f])
+    vset::size_common(&part[a..a + w], &part[b..b + w])
 }
 
 // The least vertex of row a from `from` on, or 64 * w where there is none.
@@ -131,8 +110,7 @@ pub fn next_member(part: &[u64], w: usize, a: usize, from: usize) -> usize
     requires { (a + w ≤ length part.now) × (64 * w < 2 ^ 64) × (from ≤ 64 * w) }
     ensures { Least (set_at part.now w a) from (64 * w) result }
 {
-    let e = a + w;
-    vset::next_member(&part[a..e], from)
+    vset::next_member(&part[a..a + w], from)
 }
 
 // The least vertex from `from` on that is in both rows a and b, or 64 * w where there is none.
@@ -140,7 +118,5 @@ pub fn next_common(part: &[u64], w: usize, a: usize, b: usize, from: usize) -> u
     requires { (a + w ≤ length part.now) × (b + w ≤ length part.now) × (64 * w < 2 ^ 64) × (from ≤ 64 * w) }
     ensures { Least (set_at part.now w a ∩ set_at part.now w b) from (64 * w) result }
 {
-    let e = a + w;
-    let f = b + w;
-    vset::next_common(&part[a..e], &part[b..f], from)
+    vset::next_common(&part[a..a + w], &part[b..b + w], from)
 }

@@ -1,12 +1,5 @@
 -- Laws of the rule section: the loop over the rows, and what an accepted section says of a rule.
-use Prim.Native.Nat.{ℕ, zero, suc, ◌+◌, ◌-◌, ◌≤◌, ◌<◌}
-use mathlib.Core.Path.{◌≡◌}
-use mathlib.Core.List.{List}
-use mathlib.Core.Bool.{Bool, true, false, cond, ◌&&◌, ◌||◌}
-use mathlib.Core.Logic.{◌⊎◌, inl, inr}
-use native.Mathlib.Omega.{arith}
-use lib.Dec.{eqb, ltb}
-use borrow.Author.Tests.{eqb-true, ltb-true, leb-true, ne_eqb}
+use Rattle.std.proofs.Common.{ℕ, zero, suc, ◌+◌, ◌-◌, ◌≤◌, ◌<◌, ◌≡◌, List, Bool, true, false, cond, ◌&&◌, ◌||◌, ◌⊎◌, inl, inr, arith, eqb, ltb, eqb-true, ltb-true, leb-true, ne_eqb}
 use Rattle.sets.specs.Below.{all, sum_to}
 use Rattle.sets.proofs.Tests.{and_out, or_case, below}
 use Rattle.sets.proofs.Below.{all_out, sum_in}

@@ -40,12 +40,10 @@ fn pairs_rise(p: &[u8], base: usize, m: usize, n: usize, count: usize) -> bool
     requires { pair_bytes * (base + count) ≤ length p.now }
     ensures { result ≡ all count (pair_ok p.now base m n) }
 {
-    let mut i = 0;
-    while i < count {
+    for i in 0..count {
         if !pair_ok(p, base, m, n, i) {
             return false;
         }
-        i += 1;
     }
     true
 }
@@ -72,12 +70,10 @@ pub fn pairs(s: &[u8], rs: &[u8], p: &[u8], q: usize) -> bool
     requires { RulesRead s.now rs.now p.now q }
     ensures { result ≡ pairs_ok s.now rs.now p.now q }
 {
-    let mut j = 0;
-    while j < q {
+    for j in 0..q {
         if !rule_pairs(s, rs, p, j) {
             return false;
         }
-        j += 1;
     }
     true
 }

@@ -11,7 +11,7 @@ use sheet_rows::{rule_a, rule_b, rule_count, rule_kind, rule_value};
 pub fn comes_before(a: usize, b: usize, c: usize, d: usize) -> bool
     ensures { result ≡ comes_before a b c d }
 {
-    (a < c) | ((a == c) & (b < d))
+    (a, b) < (c, d)
 }
 
 // Count and value of a rule of kind 1 or 2.
@@ -22,6 +22,7 @@ fn plain_ok(count: usize, value: usize) -> bool
 }
 
 // Kind, count and value of a rule; `sum` is the sum of the earlier kind 3 counts.
+// The kind is a number, as the bytes of a sheet may hold any.
 fn kind_ok(kind: usize, count: usize, value: usize, sum: usize) -> bool
     ensures { result ≡ kind_ok kind count value sum }
 {
@@ -72,13 +73,11 @@ pub fn rules(p: &[u8], k: usize, q: usize, t: usize) -> bool
     ensures { result ≡ rules_ok p.now k q t }
 {
     let mut sum = 0;
-    let mut j = 0;
-    while j < q {
+    for j in 0..q {
         if !rule_row_ok(p, k, sum, j) {
             return false;
         }
         sum += listed(p, j);
-        j += 1;
     }
     sum == t
 }

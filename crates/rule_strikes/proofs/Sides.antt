@@ -1,13 +1,6 @@
 -- Laws of the two sides of a rule row: what it allows is what the pair test says, and what the strikes ask holds of an
 -- accepted sheet.
-use mathlib.Core.Path.{◌≡◌, refl, sym, ap, ◌∙◌}
-use mathlib.Core.Bool.{Bool, true, false, not, ◌&&◌}
-use mathlib.Core.List.{List}
-use Prim.Native.Nat.{ℕ, ◌+◌, ◌-◌, ◌*◌, ◌^◌, ◌≤◌, ◌<◌}
-use native.Mathlib.Omega.{arith}
-use lib.Dec.{eqb, ltb}
-use lib.ListN.{length}
-use borrow.Author.Tests.{eqb-true, ltb-true, eq-eqb, le-leb}
+use Rattle.std.proofs.Common.{◌≡◌, refl, sym, ap, ◌∙◌, Bool, true, false, not, ◌&&◌, List, ℕ, ◌+◌, ◌-◌, ◌*◌, ◌^◌, ◌≤◌, ◌<◌, arith, eqb, ltb, length, eqb-true, ltb-true, eq-eqb, le-leb}
 use Rattle.sets.specs.Sets.{◌∩◌, ◌∖◌}
 use Rattle.sets.proofs.Tests.{clash, bool, is_false, not_in, and_l, and_r}
 use Rattle.sets.proofs.Below.{all_out}

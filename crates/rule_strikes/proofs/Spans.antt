@@ -1,12 +1,7 @@
 -- Laws of stretches of vertices, of sets cut and joined piece by piece, and of a row that is written more than once.
-use mathlib.Core.Path.{◌≡◌, refl, sym, ap, ◌∙◌, fun_ext}
-use mathlib.Core.Bool.{Bool, true, false, not, ◌&&◌, ◌||◌}
-use mathlib.Core.List.{List}
-use Prim.Native.Nat.{ℕ, ◌+◌, ◌≤◌, ◌<◌}
+use Rattle.std.proofs.Common.{◌≡◌, refl, sym, ap, ◌∙◌, Bool, true, false, not, ◌&&◌, ◌||◌, List, ℕ, ◌+◌, ◌≤◌, ◌<◌, arith, eqb, leb, eqb-true, ltb-true, leb-true, eq-eqb, ne_eqb, lt-ltb, le-leb}
+use mathlib.Core.Path.{fun_ext}
 use native.Mathlib.Decide.{ℕ_discrete, dec_lt}
-use native.Mathlib.Omega.{arith}
-use lib.Dec.{eqb, leb}
-use borrow.Author.Tests.{eqb-true, ltb-true, leb-true, eq-eqb, ne_eqb, lt-ltb, le-leb}
 use Rattle.sets.specs.Sets.{Set, ◌⊆◌, ◌∩◌, ◌∪◌, ◌∖◌, nothing, just, whole}
 use Rattle.sets.proofs.Tests.{clash, is_false, iff, and_l, and_r, and_in, or_l, or_r}
 use Rattle.sets.proofs.Sets.{join_assoc}

@@ -1,14 +1,7 @@
 -- Laws of what a rule row leaves: the partners by its pairs, a row under the rule, and rows written one after another.
-use mathlib.Core.Path.{◌≡◌, refl, sym, ap, ◌∙◌, fun_ext}
-use mathlib.Core.Bool.{Bool, true, false, cond, ◌&&◌, ◌||◌}
-use mathlib.Core.List.{List}
-use Prim.Native.Nat.{ℕ, ◌+◌, ◌-◌, ◌*◌, ◌≤◌, ◌<◌}
+use Rattle.std.proofs.Common.{◌≡◌, refl, sym, ap, ◌∙◌, Bool, true, false, not, cond, ◌&&◌, ◌||◌, List, ℕ, ◌+◌, ◌-◌, ◌*◌, ◌≤◌, ◌<◌, arith, add-one, eqb-true, eq-eqb, ne_eqb, leb-true, le-leb, eqb, leb, length}
+use mathlib.Core.Path.{fun_ext}
 use native.Mathlib.Decide.{dec_lt}
-use native.Mathlib.Omega.{arith}
-use native.Mathlib.Numerals.{add-one}
-use borrow.Author.Tests.{eqb-true, eq-eqb, ne_eqb, leb-true, le-leb}
-use lib.Dec.{eqb, leb}
-use lib.ListN.{length}
 use Rattle.sets.specs.Below.{any, first as lowest}
 use Rattle.sets.specs.Sets.{Set, ◌⊆◌, ◌∩◌, ◌∪◌, ◌∖◌, nothing, just}
 use Rattle.sets.proofs.Tests.{iff, and_l, and_r, and_in, and_false}
@@ -32,6 +25,12 @@ turned_and true true = refl
 turned_and true false = refl
 turned_and false true = refl
 turned_and false false = refl
+
+-- the other position is the own one, seen from the other link
+pub own_turned : (ps : List ℕ) (turned : Bool) (i : ℕ) → own_place ps (not turned) i ≡ other_place ps turned i
+unfolding own_place other_place
+own_turned ps true i = refl
+own_turned ps false i = refl
 
 -- pair row i has the positions x and y, each in its link's list
 paired : List ℕ → Bool → ℕ → ℕ → ℕ → Bool
@@ -140,12 +139,6 @@ partners_in ps turned first x base m end h v e =
     let l = leb-true first v (and_l (leb first v) _ e) in
     let o = other_of ps turned x (v - first) base m (and_r (leb first v) _ e) in
     stretch_in first end v l (omega (arith, h o.0 o.1, o.2))
-
--- the other link's vertices taken, and the partners written
-pub listed_put : {w to : ℕ} {p q r : List ℕ} (A B : Set) → Put (set_at p w to ∖ A) w to p q
-    → Put (set_at q w to ∪ B) w to q r
-    → Put ((set_at p w to ∖ A) ∪ B) w to p r
-listed_put A B P Q = put_then (λ S. S ∪ B) P Q refl
 
 -- a stretch put into an empty row
 pub stretch_put : {w to : ℕ} {p q r : List ℕ} (a b : ℕ) → Put nothing w to p q

@@ -13,6 +13,7 @@ pub use strike::{rule_side, side_of};
 // which it leaves there what it allows. `turned` where the other link is the lower one.
 #[derive(Clone, Copy)]
 pub struct Side {
+    // a number, as the sheet has it and the spacing's laws read it
     pub kind: usize,
     pub value: usize,
     pub count: usize,

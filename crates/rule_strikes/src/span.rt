@@ -10,10 +10,8 @@ pub fn add_span(part: &mut [u64], w: usize, to: usize, first: usize, end: usize)
     ensures { Put (set_at part.old w to ∪ stretch first end) w to part.old
         part.new }
 {
-    let mut v = first;
-    while v < end {
+    for v in first..end {
         rows::insert(part, w, to, v);
-        v += 1;
     }
 }
 
@@ -23,9 +21,7 @@ pub fn take_span(part: &mut [u64], w: usize, to: usize, first: usize, end: usize
     ensures { Put (set_at part.old w to ∖ stretch first end) w to part.old
         part.new }
 {
-    let mut v = first;
-    while v < end {
+    for v in first..end {
         rows::remove(part, w, to, v);
-        v += 1;
     }
 }

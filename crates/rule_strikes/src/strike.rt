@@ -28,10 +28,10 @@ pub fn side_of(sheet: &[u8], rs: &[u8], j: usize, turned: bool, a: usize, b: usi
         value: rule_value(rs, j),
         count: rule_count(rs, j),
         widths: link_width(sheet, a) + link_width(sheet, b),
-        turned: turned,
-        from: from,
+        turned,
+        from,
         upto: from + link_count(sheet, a),
-        first: first,
+        first,
         end: first + link_count(sheet, b),
     }
 }
@@ -69,11 +69,8 @@ fn strike_near(part: &mut [u64], w: usize, to: usize, fs: &[u8], s: Side, x: usi
         ∖ (stretch s.first s.end ∩ clashing fs.now s x))
         w to part.old part.new }
 {
-    let end = s.end;
-    let mut v = s.first;
-    while v < end {
+    for v in s.first..s.end {
         strike_one(part, w, to, fs, s, x, v);
-        v += 1;
     }
 }
 
@@ -83,9 +80,10 @@ fn own_place(ps: &[u8], turned: bool, i: usize) -> usize
     ensures { result ≡ own_place ps.now turned i }
 {
     if turned {
-        return pair_second(ps, i);
+        pair_second(ps, i)
+    } else {
+        pair_first(ps, i)
     }
-    pair_first(ps, i)
 }
 
 // The position of pair row i in the other link's list.
@@ -93,10 +91,7 @@ fn other_place(ps: &[u8], turned: bool, i: usize) -> usize
     requires { pair_bytes * i + pair_bytes ≤ length ps.now }
     ensures { result ≡ other_place ps.now turned i }
 {
-    if turned {
-        return pair_first(ps, i);
-    }
-    pair_second(ps, i)
+    own_place(ps, !turned, i)
 }
 
 // The partner of position x by pair row i, if it has one there, is added to row `to`.
@@ -131,16 +126,9 @@ fn write_listed(part: &mut [u64], w: usize, to: usize, ps: &[u8], s: Side, x: us
         ∪ partners ps.now s.turned s.first x s.value s.count)
         w to part.old part.new }
 {
-    let value = s.value;
-    let count = s.count;
-    let turned = s.turned;
-    let first = s.first;
-    let end = s.end;
-    take_span(part, w, to, first, end);
-    let mut i = 0;
-    while i < count {
-        add_partner(part, w, to, ps, turned, first, x, value + i);
-        i += 1;
+    take_span(part, w, to, s.first, s.end);
+    for i in 0..s.count {
+        add_partner(part, w, to, ps, s.turned, s.first, x, s.value + i);
     }
 }
 
@@ -170,9 +158,7 @@ pub fn rule_side(part: &mut [u64], place: Place, fs: &[u8], ps: &[u8], s: Side)
     ensures { Rewritten (under_rule fs.now ps.now s) s.from s.upto
         place.w place.graph place.n part.old part.new }
 {
-    let mut u = s.from;
-    while u < s.upto {
+    for u in s.from..s.upto {
         rule_row(part, place, fs, ps, s, u);
-        u += 1;
     }
 }

@@ -1,20 +1,11 @@
 -- Laws of the vertex of a frequency, and of a sheet that the check refuses.
-use Prim.Native.Nat.{ℕ, ◌+◌, ◌<◌}
-use mathlib.Core.Path.{◌≡◌, ap, sym, ◌∙◌}
-use mathlib.Core.List.{List}
-use mathlib.Core.Bool.{true}
-use native.Mathlib.Omega.{arith}
-use lib.ListN.{length}
-use lib.Dec.{eqb, ltb}
-use borrow.Author.Tests.{ltb-true, ne_eqb}
+use Rattle.std.proofs.Common.{ℕ, ◌+◌, ◌<◌, ◌≡◌, ◌∙◌, List, true, arith, length, eqb, ltb, ltb-true, ne_eqb}
 use Rattle.sets.specs.Below.{all}
 use Rattle.sets.proofs.Below.{all_out, first_any}
 use Rattle.sheet_rows.specs.Rows.{link_first, link_count, freq}
 use Rattle.sheet.specs.Sheet.{k_of, freq_part}
-use Rattle.sheet.specs.Refusal.{cause_number, number_of, refusal}
+use Rattle.sheet.specs.Refusal.{cause_number, refusal}
 use Rattle.sheet.specs.declared.Cause.{Cause}
-use Rattle.sheet.specs.declared.Reading.{Reading}
-use Rattle.sheet.specs.declared.Reading.TheVariants.{Refused}
 use Rattle.sheet.proofs.Causes.{cause_some}
 use Rattle.pair_test.specs.Layers.{InLink}
 use Rattle.rules.specs.Job.{job_with}
@@ -56,10 +47,8 @@ cell_taken {s} {cells} {l} t b =
     }
 
 -- a sheet that the reader refuses is refused by the check, for the same cause
-pub check_refused : (s channels cells : List ℕ) (r : Reading) (x : Cause) → number_of r ≡ refusal s → r ≡ Refused x
+pub check_refused : (s channels cells : List ℕ) (x : Cause) → cause_number x ≡ refusal s
     → cause_number x ≡ checked (job_with s channels) cells
 unfolding checked
-check_refused s channels cells r x h e =
-    let m : refusal s ≡ cause_number x = sym h ∙ ap number_of e in
-    let o = cause_some x in
-    rw (m, ne_eqb (cause_number x) 0 (λ z. omega arith))
+check_refused s channels cells x h =
+    let o = cause_some x in rw (← h, ne_eqb (cause_number x) 0 (λ z. omega arith))

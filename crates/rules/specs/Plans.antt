@@ -1,6 +1,7 @@
 -- Assignments and the plan check: "The check takes a sheet and cells, reads the first k, and says yes exactly if each
 -- is in its link's list and all rules hold".
 use Rattle.std.specs.Prelude.{ℕ, ◌+◌, List, Bool, true, false, not, ◌&&◌, ◌||◌, length, get_or, leb, eqb, ℤ}
+use Rattle.std.specs.Prelude.{Result, Ok, Err}
 use Rattle.sets.specs.Below.{all, any, first}
 use Rattle.channels.specs.Channels.{channels_ok, on_air}
 use Rattle.sheet_rows.specs.Rows.{link_first, link_count, freq}
@@ -9,8 +10,8 @@ use Rattle.sheet.specs.Refusal.{cause_number, passing, refusal}
 use Rattle.spacing.specs.Spacing.{zero_or_more}
 use Rattle.pair_test.specs.Pairs.{spare}
 use Rattle.rules.specs.Job.{Job}
-use Rattle.rules.specs.declared.CheckAnswer.{CheckAnswer}
-use Rattle.rules.specs.declared.CheckAnswer.TheVariants.{No, Yes, Few, BadChannels, Refused}
+use Rattle.rules.specs.declared.CheckRefusal.{CheckRefusal}
+use Rattle.rules.specs.declared.CheckRefusal.TheVariants.{Sheet, FewCells, Channels}
 
 -- the place of the frequency x among `count` from vertex `from` on, or `count`
 unfoldable pub place_of : List ℕ → ℕ → ℕ → ℕ → ℕ
@@ -76,9 +77,8 @@ checked job cells =
     yes_no (keeps_job job (cells_of cells))
 
 -- the paper's number for each answer of the check: 0 is no, and no cause has it
-abbrev pub check_number : CheckAnswer → ℕ
-check_number No = 0
-check_number Yes = 100
-check_number Few = 10
-check_number BadChannels = 17
-check_number (Refused cause) = cause_number cause
+abbrev pub check_number : Result Bool CheckRefusal → ℕ
+check_number (Ok answer) = yes_no answer
+check_number (Err FewCells) = 10
+check_number (Err Channels) = 17
+check_number (Err (Sheet cause)) = cause_number cause

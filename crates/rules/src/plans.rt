@@ -17,24 +17,16 @@ use sheet::links_of;
 use sheet_rows::{freq, link_count, link_first};
 use spacing::is_allowed;
 
-// A cell as a number that compares with fields.
-fn wide(x: u32) -> usize
-    ensures { result ≡ x }
-{
-    x as usize
-}
-
 // The place of the frequency x among `count` from vertex `from` on, or `count`.
+// A number where there is none too: `has_freq` compares it with the count, and `vertex` adds it.
 fn place(fs: &[u8], from: usize, count: usize, x: usize) -> usize
     requires { freq_bytes * (from + count) ≤ length fs.now }
     ensures { result ≡ place_of fs.now from count x }
 {
-    let mut i = 0;
-    while i < count {
+    for i in 0..count {
         if freq(fs, from + i) == x {
             return i;
         }
-        i += 1;
     }
     count
 }
@@ -62,7 +54,7 @@ fn cell_listed(s: &[u8], cells: &[u32], l: usize) -> bool
     requires { Accepted s.now × (k_of s.now ≤ length cells.now) × (l < k_of s.now) }
     ensures { result ≡ cell_listed s.now cells.now l }
 {
-    has_freq(s, l, wide(cells[l]))
+    has_freq(s, l, cells[l] as usize)
 }
 
 // Whether each of the first k cells is in its link's list.
@@ -71,12 +63,10 @@ pub fn cells_listed(s: &[u8], cells: &[u32]) -> bool
     ensures { result ≡ all (k_of s.now) (cell_listed s.now cells.now) }
 {
     let k = links_of(s);
-    let mut l = 0;
-    while l < k {
+    for l in 0..k {
         if !cell_listed(s, cells, l) {
             return false;
         }
-        l += 1;
     }
     true
 }
@@ -87,7 +77,7 @@ fn cell_vertex(s: &[u8], cells: &[u32], l: usize) -> usize
     ensures { (result ≡ vertex_in s.now l (cells_of cells.now l))
         × InLink s.now l result }
 {
-    vertex(s, l, wide(cells[l]))
+    vertex(s, l, cells[l] as usize)
 }
 
 // What the cells of links a and b have to spare.
@@ -118,13 +108,11 @@ fn link_kept(s: &[u8], cells: &[u32], a: usize, from: usize) -> bool
 {
     let k = links_of(s);
     let mut j = from;
-    let mut b = a + 1;
-    while b < k {
+    for b in a + 1..k {
         j = seek_rule(s, a, b, j);
         if !pair_kept(s, cells, a, b, j) {
             return false;
         }
-        b += 1;
     }
     true
 }
@@ -136,13 +124,11 @@ fn links_kept(s: &[u8], cells: &[u32]) -> bool
 {
     let k = links_of(s);
     let mut j = 0;
-    let mut a = 0;
-    while a < k {
+    for a in 0..k {
         j = seek_rule(s, a, 0, j);
         if !link_kept(s, cells, a, j) {
             return false;
         }
-        a += 1;
     }
     true
 }
@@ -163,12 +149,10 @@ fn cells_clear(channels: &[u8], cells: &[u32], links: usize) -> bool
     requires { (channels_ok channels.now ≡ true) × (links ≤ length cells.now) }
     ensures { result ≡ all links (clear channels.now (cells_of cells.now)) }
 {
-    let mut l = 0;
-    while l < links {
-        if is_on_air(channels, wide(cells[l])) {
+    for cell in &cells[..links] {
+        if is_on_air(channels, *cell as usize) {
             return false;
         }
-        l += 1;
     }
     true
 }

@@ -27,16 +27,10 @@ fn none_empty(part: &[u64], place: Place, layers: usize) -> bool
     ensures { NoneEmpty place layers part.now result }
 {
     let by_layers = Place {
-        w: place.w,
         masks: layers,
-        graph: place.graph,
-        n: place.n,
-        k: place.k,
+        ..place
     };
-    if !is_open(part, by_layers, 0) {
-        return false;
-    }
-    is_open(part, place, 0)
+    is_open(part, by_layers, 0) && is_open(part, place, 0)
 }
 
 // Whether the root is to be entered. Then its live set, after the pre-filter as switched, is the first row of the part.
@@ -52,17 +46,10 @@ pub fn open_root(part: &mut [u64], place: Place, layers: usize, filters: u32) ->
         return true;
     }
     let by_layers = Place {
-        w: place.w,
         masks: layers,
-        graph: place.graph,
-        n: place.n,
-        k: place.k,
+        ..place
     };
-    if !pre_filter(part, by_layers) {
-        return false;
-    }
-    let classes_open = is_open(part, place, 0);
-    classes_open
+    pre_filter(part, by_layers) && is_open(part, place, 0)
 }
 
 // Searches the tree of a setting until the first plan. The layers' masks stand from `layers` on.

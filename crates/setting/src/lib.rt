@@ -5,8 +5,9 @@
 ghost use Rattle.std.specs.Prelude.{◌≡◌};
 ghost use Rattle.setting.specs.Setting.{in_range};
 
-// The numbers of a setting: filter number, partition choice, limit on the nodes. The caller's list is lent beside them.
-#[derive(Clone, Copy)]
+// The numbers of a setting: filter number, partition choice, limit on the nodes; numbers, as the caller's may be any.
+// The caller's list is lent beside them.
+#[derive(Clone, Copy, Debug, PartialEq, Eq)]
 pub struct Options {
     pub filter: u32,
     pub choice: u32,

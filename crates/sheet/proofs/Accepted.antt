@@ -1,13 +1,6 @@
 -- A sheet that no cause refuses is accepted: what each test of the chain of causes says. No cause has a number above
 -- 16.
-use Prim.Native.Nat.{ℕ, ◌≤◌}
-use mathlib.Core.Path.{◌≡◌}
-use mathlib.Core.List.{List}
-use mathlib.Core.Bool.{true, ◌&&◌}
-use native.Mathlib.Omega.{arith}
-use lib.ListN.{length}
-use lib.Dec.{eqb, ltb, leb, lit<}
-use borrow.Author.Tests.{eqb-true, ltb-true, leb-true}
+use Rattle.std.proofs.Common.{ℕ, ◌≤◌, ◌≡◌, List, true, ◌&&◌, arith, length, eqb, ltb, leb, lit<, eqb-true, ltb-true, leb-true}
 use Rattle.sets.proofs.Tests.{and_out}
 use Rattle.wire.specs.Fields.{le32}
 use Rattle.sheet_rows.specs.Form.{form_of}

@@ -1,15 +1,9 @@
 -- Laws of causes, and of `unless` and `passing`: a cause where a test fails.
-use Prim.Native.Nat.{ℕ, ◌≤◌, ◌<◌}
-use mathlib.Core.Path.{◌≡◌, ◌∙◌, ap, refl, sym}
-use mathlib.Core.Bool.{Bool, true, false}
-use native.Mathlib.Omega.{arith}
-use lib.Dec.{lit<}
-use Rattle.sheet.specs.Refusal.{cause_number, number_of, unless, passing}
+use Rattle.std.proofs.Common.{ℕ, ◌≤◌, ◌<◌, ◌≡◌, refl, sym, Bool, true, false, arith}
+use Rattle.sheet.specs.Refusal.{cause_number, unless, passing}
 use Rattle.sheet.specs.declared.Cause.{Cause}
 use Rattle.sheet.specs.declared.Cause.TheVariants.{Form, Links, Counts, Offsets}
 use Rattle.sheet.specs.declared.Cause.TheVariants.{LinkRow, Width, Frequency, RuleRow, PairRow}
-use Rattle.sheet.specs.declared.Reading.{Reading}
-use Rattle.sheet.specs.declared.Reading.TheVariants.{Refused}
 
 pub unless_true : (b : Bool) (c : ℕ) → b ≡ true → 0 ≡ unless b c
 unfolding unless
@@ -37,29 +31,32 @@ cause_most RuleRow = omega arith
 cause_most PairRow = omega arith
 
 pub cause_some : (x : Cause) → 0 < cause_number x
-cause_some Form = lit< tt
-cause_some Links = lit< tt
-cause_some Counts = lit< tt
-cause_some Offsets = lit< tt
-cause_some LinkRow = lit< tt
-cause_some Width = lit< tt
-cause_some Frequency = lit< tt
-cause_some RuleRow = lit< tt
-cause_some PairRow = lit< tt
+cause_some Form = omega arith
+cause_some Links = omega arith
+cause_some Counts = omega arith
+cause_some Offsets = omega arith
+cause_some LinkRow = omega arith
+cause_some Width = omega arith
+cause_some Frequency = omega arith
+cause_some RuleRow = omega arith
+cause_some PairRow = omega arith
 
 -- a reading with a cause, of two tests that fail with c and d: it is the cause of these tests, whatever comes after
-pub refused_is : (r : Reading) (x : Cause) (a b : Bool) (c d : ℕ) (after : Unit {0} → ℕ)
-    → number_of r ≡ (passing a c λ _. unless b d) → r ≡ Refused x → cause_number x ≡ (passing a c λ _. passing b d after)
+pub refused_is : (x : Cause) (a b : Bool) (c d : ℕ) (after : Unit {0} → ℕ)
+    → cause_number x ≡ (passing a c λ _. unless b d) → cause_number x ≡ (passing a c λ _. passing b d after)
 unfolding unless
-refused_is r x true true c d after h e =
-    let z = cause_some x in let w : cause_number x ≡ 0 = sym (ap number_of e) ∙ h in absurd (omega arith)
-refused_is r x true false c d after h e = sym (ap number_of e) ∙ h
-refused_is r x false b c d after h e = sym (ap number_of e) ∙ h
+refused_is x true true c d after h = let z = cause_some x in absurd (omega arith)
+refused_is x true false c d after h = h
+refused_is x false b c d after h = h
 
 -- a step of a chain of causes that ends in 0
 pub passed : (b : Bool) (c : ℕ) (after : Unit {0} → ℕ) → 0 < c → passing b c after ≡ 0 → (b ≡ true) × (after tt ≡ 0)
 passed true c after h e = (refl, e)
 passed false c after h e = absurd (omega arith)
+
+-- the link section with no cause: its rows and its widths are right
+pub links_passed : (a b : Bool) → 0 ≡ (passing a 5 λ _. unless b 16) → (a ≡ true) × (b ≡ true)
+links_passed a b e = let p = passed a 5 _ (omega arith) (sym e) in (p.0, unless_zero b 16 (omega arith) p.1)
 
 -- the largest number of a chain of causes
 pub passing_most : (b : Bool) (c m : ℕ) (after : Unit {0} → ℕ) → c ≤ m → after tt ≤ m → passing b c after ≤ m

@@ -1,37 +1,31 @@
 -- Laws of the link section: a row that was read, the loop over the rows, and what an accepted section says of a link.
-use Prim.Native.Nat.{ℕ, ◌+◌, ◌≤◌, ◌<◌}
-use mathlib.Core.Path.{◌≡◌, ap, refl, sym}
-use mathlib.Core.List.{List}
-use mathlib.Core.Bool.{Bool, true, false}
-use native.Mathlib.Omega.{arith}
-use lib.Dec.{eqb, ltb}
-use borrow.Author.Tests.{eqb-true, ltb-true}
+use Rattle.std.proofs.Common.{ℕ, ◌+◌, ◌≤◌, ◌<◌, ◌≡◌, ap, refl, sym, List, Bool, true, false, arith, eqb, ltb, Some, None, eqb-true, ltb-true, eq-eqb, ne_eqb}
 use Rattle.sets.specs.Below.{all, sum_to}
 use Rattle.sets.proofs.Tests.{and_out}
 use Rattle.sets.proofs.Below.{all_in, all_out, all_false, sum_in}
 use Rattle.sheet_rows.specs.Rows.{row_first, row_count, link_bytes, link_part, link_first, link_count}
 use Rattle.sheet.specs.Sheet.{link_row_ok, link_ok, link_rows_ok, links_ok, RowRead, row_read, row_if, link_row}
 use Rattle.sheet.specs.Sheet.{width_ok, width_rows_ok, widths_ok}
-use Rattle.sheet.specs.declared.Row.TheVariants.{Link, Bad}
+use Rattle.sheet.specs.declared.link_rows.Row.{Row}
 
-picked_link : (b : Bool) (f n g m : ℕ) → row_read (Link g m) ≡ row_if b f n → (b ≡ true) × (n ≡ m)
-picked_link true f n g m e = (refl, sym (ap (λ (r : RowRead). r.count) e))
-picked_link false f n g m e = let z : ◌≡◌ {A = ℕ} 0 5 = ap (λ (r : RowRead). r.number) e in absurd (omega arith)
+picked_link : (b : Bool) (f n : ℕ) (row : Row) → row_read (Some row) ≡ row_if b f n → (b ≡ true) × (n ≡ row.count)
+picked_link true f n row e = (refl, sym (ap (λ (r : RowRead). r.count) e))
+picked_link false f n row e = let z : ◌≡◌ {A = ℕ} 0 5 = ap (λ (r : RowRead). r.number) e in absurd (omega arith)
 
-picked_bad : (b : Bool) (f n : ℕ) → row_read Bad ≡ row_if b f n → b ≡ false
+picked_bad : (b : Bool) (f n : ℕ) → row_read None ≡ row_if b f n → b ≡ false
 picked_bad true f n e = let z : ◌≡◌ {A = ℕ} 5 0 = ap (λ (r : RowRead). r.number) e in absurd (omega arith)
 picked_bad false f n e = refl
 
 -- a row that was read is right at its place, or not
-pub row_link : (bytes : ℕ) (p : List ℕ) (l sum g m : ℕ) → sum ≡ sum_to l (row_count bytes p)
-    → row_read (Link g m) ≡ link_row bytes p l sum → (link_ok bytes p l ≡ true) × (row_count bytes p l ≡ m)
+pub row_link : (bytes : ℕ) (p : List ℕ) (l sum : ℕ) (row : Row) → sum ≡ sum_to l (row_count bytes p)
+    → row_read (Some row) ≡ link_row bytes p l sum → (link_ok bytes p l ≡ true) × (row_count bytes p l ≡ row.count)
 unfolding link_ok
-row_link bytes p l sum g m e h =
-    let o = picked_link (link_row_ok bytes p l sum) (row_first bytes p l) (row_count bytes p l) g m h in
+row_link bytes p l sum row e h =
+    let o = picked_link (link_row_ok bytes p l sum) (row_first bytes p l) (row_count bytes p l) row h in
     (rw (← e) o.0, o.1)
 
 pub row_bad : (bytes : ℕ) (p : List ℕ) (l sum : ℕ) → sum ≡ sum_to l (row_count bytes p)
-    → row_read Bad ≡ link_row bytes p l sum → link_ok bytes p l ≡ false
+    → row_read None ≡ link_row bytes p l sum → link_ok bytes p l ≡ false
 unfolding link_ok
 row_bad bytes p l sum e h =
     rw (← e) (picked_bad (link_row_ok bytes p l sum) (row_first bytes p l) (row_count bytes p l) h)
@@ -41,10 +35,16 @@ pub links_false : (bytes : ℕ) (p : List ℕ) (k n l : ℕ) → l < k → link_
 unfolding link_rows_ok
 links_false bytes p k n l h e = rw (all_false k (link_ok bytes p) l h e)
 
-pub links_are : (bytes : ℕ) (p : List ℕ) (k n l sum : ℕ) (b : Bool) → l ≡ k → all l (link_ok bytes p) ≡ true
-    → sum ≡ sum_to l (row_count bytes p) → eqb sum n ≡ b → link_rows_ok bytes p k n ≡ b
+-- all rows are right, and their counts sum to n, or not
+pub links_true : (bytes : ℕ) (p : List ℕ) (k n sum : ℕ) → all k (link_ok bytes p) ≡ true
+    → sum ≡ sum_to k (row_count bytes p) → sum ≡ n → link_rows_ok bytes p k n ≡ true
 unfolding link_rows_ok
-links_are bytes p k n l sum b q h e d = rw (← q, h, ← e) d
+links_true bytes p k n sum h e d = rw (h, ← e) (eq-eqb sum n d)
+
+pub sum_false : (bytes : ℕ) (p : List ℕ) (k n sum : ℕ) → all k (link_ok bytes p) ≡ true
+    → sum ≡ sum_to k (row_count bytes p) → (sum ≡ n → ⊥) → link_rows_ok bytes p k n ≡ false
+unfolding link_rows_ok
+sum_false bytes p k n sum h e d = rw (h, ← e) (ne_eqb sum n d)
 
 -- of a sheet whose link section is accepted
 module _ (s : List ℕ) (k n : ℕ) (ok : links_ok s k n ≡ true) where

@@ -1,5 +1,5 @@
 -- Why a sheet is refused: the table's causes 1 to 8, with 16 after 5, "in the order tested", and their numbers.
-use Rattle.std.specs.Prelude.{ℕ, List, Bool, true, false, ◌&&◌, length, ltb, leb, eqb}
+use Rattle.std.specs.Prelude.{ℕ, List, Bool, true, false, ◌&&◌, length, ltb, leb, eqb, Result, Ok, Err}
 use Rattle.wire.specs.Fields.{le32}
 use Rattle.sheet_rows.specs.Form.{form_of}
 use Rattle.sheet_rows.specs.Rows.{header_bytes, link_bytes}
@@ -9,8 +9,6 @@ use Rattle.sheet.specs.Sheet.{freq_part, rule_part, pair_part, links_ok, widths_
 use Rattle.sheet.specs.declared.Cause.{Cause}
 use Rattle.sheet.specs.declared.Cause.TheVariants.{Form, Links, Counts, Offsets}
 use Rattle.sheet.specs.declared.Cause.TheVariants.{LinkRow, Width, Frequency, RuleRow, PairRow}
-use Rattle.sheet.specs.declared.Reading.{Reading}
-use Rattle.sheet.specs.declared.Reading.TheVariants.{Fine, Refused}
 
 -- the paper's number for each cause
 abbrev pub cause_number : Cause → ℕ
@@ -25,9 +23,9 @@ cause_number RuleRow = 7
 cause_number PairRow = 8
 
 -- the paper's number for each answer of the reader: 0 accepts, and no cause has it
-abbrev pub number_of : Reading → ℕ
-number_of Fine = 0
-number_of (Refused cause) = cause_number cause
+abbrev pub number_of : Result (Unit {0}) Cause → ℕ
+number_of (Ok _) = 0
+number_of (Err cause) = cause_number cause
 
 -- 1: "under 40 bytes", or a form that there is not
 unfoldable pub form_ok : List ℕ → Bool

@@ -1,14 +1,13 @@
 -- The job sheet, as a list of bytes: its header, where its sections begin, and what link and frequency rows have to
 -- say. The rows' fields are those of `Rows`, and what goes by the form is in `Form`, crate `sheet_rows`; rule and pair
 -- rows are in `Rules`, crate `rule_sections`.
-use Rattle.std.specs.Prelude.{ℕ, ◌+◌, ◌-◌, ◌*◌, List, Bool, not, ◌&&◌, ◌||◌, drop, ltb, leb, eqb}
+use Rattle.std.specs.Prelude.{ℕ, ◌+◌, ◌-◌, ◌*◌, List, Bool, not, ◌&&◌, ◌||◌, drop, ltb, leb, eqb, Option, Some, None}
 use Rattle.sets.specs.Below.{all, sum_to}
 use Rattle.wire.specs.Fields.{le32}
 use Rattle.sheet_rows.specs.Rows.{header_bytes, link_bytes, link_part, freq_bytes, rule_bytes, pair_bytes}
 use Rattle.sheet_rows.specs.Rows.{row_first, row_count, row_width, link_first, link_count, freq}
 use Rattle.rule_sections.specs.Rules.{most_khz, only}
-use Rattle.sheet.specs.declared.Row.{Row}
-use Rattle.sheet.specs.declared.Row.TheVariants.{Link, Bad}
+use Rattle.sheet.specs.declared.link_rows.Row.{Row}
 
 -- "a 32-bit width in kHz, 1 to 20,000"
 abbrev pub most_width : ℕ
@@ -85,10 +84,10 @@ pub record RowRead : Type 0 where
   pub first : ℕ
   pub count : ℕ
 
--- what each case of the reader's enum says
-abbrev pub row_read : Row → RowRead
-row_read (Link first count) = record { number = 0; first = first; count = count }
-row_read Bad = record { number = 5; first = 0; count = 0 }
+-- what a row that was read says, or none
+abbrev pub row_read : Option Row → RowRead
+row_read (Some row) = record { number = 0; first = row.first; count = row.count }
+row_read None = record { number = 5; first = 0; count = 0 }
 
 -- refusal 5 unless a row is right, and its fields only then
 abbrev pub row_if : Bool → ℕ → ℕ → RowRead

@@ -26,12 +26,10 @@ fn rising(p: &[u8], base: usize, count: usize) -> bool
     requires { freq_bytes * (base + count) ≤ length p.now }
     ensures { result ≡ all count (freq_ok p.now base) }
 {
-    let mut i = 0;
-    while i < count {
+    for i in 0..count {
         if !freq_ok(p, base, i) {
             return false;
         }
-        i += 1;
     }
     true
 }
@@ -41,14 +39,12 @@ pub fn freqs(s: &[u8], p: &[u8], k: usize) -> bool
     requires { LinksRead s.now p.now k }
     ensures { result ≡ freqs_ok s.now p.now k }
 {
-    let mut l = 0;
-    while l < k {
+    for l in 0..k {
         let first = link_first(s, l);
         let count = link_count(s, l);
         if !rising(p, first, count) {
             return false;
         }
-        l += 1;
     }
     true
 }

@@ -19,7 +19,7 @@ pub use places::{end_at, freqs_at, freqs_of, links_of, pairs_at, pairs_of, rules
 use sections::sections;
 
 // Why the reader refuses a sheet.
-#[derive(Clone, Copy)]
+#[derive(Clone, Copy, Debug, PartialEq, Eq)]
 pub enum Cause {
     Form,
     Links,
@@ -32,52 +32,40 @@ pub enum Cause {
     PairRow,
 }
 
-// What the reader says of a sheet: accepted, or the first cause that refuses it.
-#[derive(Clone, Copy)]
-pub enum Reading {
-    Fine,
-    Refused(Cause),
-}
-
-// A link row that keeps its rule, or none.
-#[derive(Clone, Copy)]
-enum Row {
-    Link { first: usize, count: usize },
-    Bad,
-}
-
 // The paper's number for a cause.
-pub fn cause_number(c: Cause) -> u32
-    ensures { result ≡ cause_number c }
-{
-    match c {
-        Cause::Form => 1,
-        Cause::Links => 2,
-        Cause::Counts => 3,
-        Cause::Offsets => 4,
-        Cause::LinkRow => 5,
-        Cause::Width => 16,
-        Cause::Frequency => 6,
-        Cause::RuleRow => 7,
-        Cause::PairRow => 8,
+impl From<Cause> for u32 {
+    ghost from_gives = { λ cause number. number ≡ cause_number cause };
+
+    fn from(cause: Cause) -> u32 {
+        match cause {
+            Cause::Form => 1,
+            Cause::Links => 2,
+            Cause::Counts => 3,
+            Cause::Offsets => 4,
+            Cause::LinkRow => 5,
+            Cause::Width => 16,
+            Cause::Frequency => 6,
+            Cause::RuleRow => 7,
+            Cause::PairRow => 8,
+        }
     }
 }
 
-// The reader, for any bytes.
-pub fn check_sheet(s: &[u8]) -> Reading
+// The reader, for any bytes: accepted, or the first cause that refuses the sheet.
+pub fn check_sheet(s: &[u8]) -> Result<(), Cause>
     ensures { number_of result ≡ refusal s.now }
 {
     if !form_ok(s) {
-        return Reading::Refused(Cause::Form);
+        return Err(Cause::Form);
     }
     if !link_count_ok(s) {
-        return Reading::Refused(Cause::Links);
+        return Err(Cause::Links);
     }
     if !counts_ok(s) {
-        return Reading::Refused(Cause::Counts);
+        return Err(Cause::Counts);
     }
     if !offsets_ok(s) {
-        return Reading::Refused(Cause::Offsets);
+        return Err(Cause::Offsets);
     }
     sections(s)
 }

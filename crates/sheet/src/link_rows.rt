@@ -5,44 +5,46 @@ ghost use Rattle.sheet_rows.specs.Rows.{HasRow};
 ghost use Rattle.sheet.specs.Sheet.{link_rows_ok, link_row, row_read};
 ghost use Rattle.sheet.specs.Refusal.{number_of, passing, unless};
 
-use crate::{Cause, Reading, Row};
+use crate::Cause;
 use sheet_rows::{row_count, row_first};
 
+// A link row.
+#[derive(Clone, Copy)]
+struct Row {
+    first: usize,
+    count: usize,
+}
+
 // Link row l, where it keeps its rule; `sum` is the sum of the earlier counts.
-fn link_row(p: &[u8], bytes: usize, l: usize, sum: usize) -> Row
+fn link_row(p: &[u8], bytes: usize, l: usize, sum: usize) -> Option<Row>
     requires { HasRow bytes p.now l × (4 ≤ bytes) }
     ensures { row_read result ≡ link_row bytes p.now l sum }
 {
     let first = row_first(p, bytes, l);
     let count = row_count(p, bytes, l);
-    if first != sum {
-        return Row::Bad;
+    if first != sum || count == 0 {
+        return None;
     }
-    if count == 0 {
-        return Row::Bad;
-    }
-    Row::Link { first, count }
+    Some(Row { first, count })
 }
 
 // The link section, of k rows of so many bytes: each row, the sum, and last `wide`, whether the widths are right.
-pub fn links(p: &[u8], bytes: usize, k: usize, n: usize, wide: bool) -> Reading
+pub fn links(p: &[u8], bytes: usize, k: usize, n: usize, wide: bool) -> Result<(), Cause>
     requires { (k ≤ most_links) × (bytes * k ≤ length p.now) × (4 ≤ bytes) }
     ensures { number_of result ≡ (passing (link_rows_ok bytes p.now k n) 5 λ _. unless wide 16) }
 {
     let mut sum = 0;
-    let mut l = 0;
-    while l < k {
-        let Row::Link { first, count } = link_row(p, bytes, l, sum) else {
-            return Reading::Refused(Cause::LinkRow);
+    for l in 0..k {
+        let Some(row) = link_row(p, bytes, l, sum) else {
+            return Err(Cause::LinkRow);
         };
-        sum += count;
-        l += 1;
+        sum += row.count;
     }
     if sum != n {
-        return Reading::Refused(Cause::LinkRow);
+        return Err(Cause::LinkRow);
     }
     if !wide {
-        return Reading::Refused(Cause::Width);
+        return Err(Cause::Width);
     }
-    Reading::Fine
+    Ok(())
 }

@@ -6,6 +6,8 @@ ghost use Rattle.sheet.specs.Sheet.{k_of, n_of, q_of, t_of, freqs_at, rules_at, 
 use sheet_rows::link_bytes;
 use wire::word;
 
+// Each count is one field of the header, under the name that callers use.
+
 // The number of links, k.
 pub fn links_of(s: &[u8]) -> usize
     requires { header_bytes ≤ length s.now }

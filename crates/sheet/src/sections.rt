@@ -7,11 +7,11 @@ ghost use Rattle.sheet.specs.Sheet.{links_ok, widths_ok, freqs_ok};
 ghost use Rattle.sheet.specs.Refusal.{number_of, passing, unless, section_cause};
 ghost use Rattle.sheet.specs.Accepted.{Head};
 
+use crate::Cause;
 use crate::freq_rows::freqs;
 use crate::link_rows::links;
 use crate::places::{freqs_at, freqs_of, links_of, pairs_at, pairs_of, rules_at, rules_of};
 use crate::width_rows::widths;
-use crate::{Cause, Reading};
 use rule_sections::{pairs, rules};
 use sheet_rows::link_bytes;
 
@@ -24,7 +24,7 @@ fn widths_right(s: &[u8]) -> bool
 }
 
 // The link section.
-fn link_section(s: &[u8]) -> Reading
+fn link_section(s: &[u8]) -> Result<(), Cause>
     requires { Head s.now }
     ensures { number_of result ≡
         (passing (links_ok s.now (k_of s.now) (n_of s.now)) 5 λ _.
@@ -65,21 +65,19 @@ fn pair_section(s: &[u8]) -> bool
 }
 
 // The sections in turn.
-pub fn sections(s: &[u8]) -> Reading
+pub fn sections(s: &[u8]) -> Result<(), Cause>
     requires { Head s.now }
     ensures { number_of result ≡ section_cause s.now }
 {
-    if let Reading::Refused(cause) = link_section(s) {
-        return Reading::Refused(cause);
-    }
+    link_section(s)?;
     if !freq_section(s) {
-        return Reading::Refused(Cause::Frequency);
+        return Err(Cause::Frequency);
     }
     if !rule_section(s) {
-        return Reading::Refused(Cause::RuleRow);
+        return Err(Cause::RuleRow);
     }
     if !pair_section(s) {
-        return Reading::Refused(Cause::PairRow);
+        return Err(Cause::PairRow);
     }
-    Reading::Fine
+    Ok(())
 }

@@ -20,12 +20,10 @@ pub fn widths(p: &[u8], bytes: usize, k: usize) -> bool
     requires { bytes * k ≤ length p.now }
     ensures { result ≡ width_rows_ok bytes p.now k }
 {
-    let mut l = 0;
-    while l < k {
+    for l in 0..k {
         if !width_ok(p, bytes, l) {
             return false;
         }
-        l += 1;
     }
     true
 }

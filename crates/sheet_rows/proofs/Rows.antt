@@ -1,14 +1,5 @@
 -- Laws of link rows: what every form keeps to, where a row lies, and the link section as the code has it.
-use Prim.Native.Nat.{ℕ, suc, ◌+◌, ◌-◌, ◌*◌, ◌≤◌, ◌<◌}
-use mathlib.Core.Path.{◌≡◌, refl}
-use mathlib.Core.Bool.{Bool, true, false, cond}
-use mathlib.Core.List.{List}
-use mathlib.Core.Logic.{◌⊎◌, inl, inr}
-use native.Mathlib.Nat.{mul-le-mul_left, mul-le-mul_right, mul-suc}
-use native.Mathlib.Omega.{arith}
-use lib.Dec.{eqb}
-use lib.ListN.{length, take, drop, length-drop}
-use lib.Seq.{take_all}
+use Rattle.std.proofs.Common.{ℕ, suc, ◌+◌, ◌-◌, ◌*◌, ◌≤◌, ◌<◌, ◌≡◌, refl, Bool, true, false, cond, List, ◌⊎◌, inl, inr, mul-le-mul_left, mul-le-mul_right, mul-suc, arith, eqb, length, take, drop, length-drop, take_all}
 use Rattle.sheet_rows.specs.declared.Form.{Form}
 use Rattle.sheet_rows.specs.Form.{form_by, hall_links, hall_freqs, hall_words, most_links, most_freqs, most_words}
 use Rattle.sheet_rows.specs.Rows.{HasLink, HasLinks, link_bytes}

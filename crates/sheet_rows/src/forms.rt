@@ -6,25 +6,33 @@ ghost use Rattle.sheet_rows.specs.Rows.{header_bytes, link_bytes};
 use crate::Form;
 use wire::word;
 
+// What form 1 has.
+const HALL: Form = Form {
+    known: true,
+    bytes: 4,
+    links: 64,
+    freqs: 512,
+    words: 8192,
+};
+
 // The form of a number.
 fn form_by(number: usize) -> Form
     ensures { result ≡ form_by number }
 {
-    if number == 3 {
-        return Form {
+    match number {
+        1 => HALL,
+        2 => Form { bytes: 8, ..HALL },
+        3 => Form {
             known: true,
             bytes: 8,
             links: 128,
             freqs: 1024,
             words: 32768,
-        };
-    }
-    Form {
-        known: (number == 1) | (number == 2),
-        bytes: if number == 2 { 8 } else { 4 },
-        links: 64,
-        freqs: 512,
-        words: 8192,
+        },
+        _ => Form {
+            known: false,
+            ..HALL
+        },
     }
 }
 

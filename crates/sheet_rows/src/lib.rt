@@ -18,12 +18,15 @@ use wire::{half, word};
 // words that planning needs.
 #[derive(Clone, Copy)]
 pub struct Form {
+    // a field, as the contracts ask for the sizes of every number, of a form or not
     pub known: bool,
     pub bytes: usize,
     pub links: usize,
     pub freqs: usize,
     pub words: usize,
 }
+
+// Each field below is one expression over `half` or `word`: a shared reader would be no shorter.
 
 // The v-th frequency.
 pub fn freq(p: &[u8], v: usize) -> usize

@@ -33,6 +33,8 @@ pub fn row_width(p: &[u8], bytes: usize, l: usize) -> usize
     word(p, bytes * l + 4)
 }
 
+// Of a sheet, three calls that differ in the row's reader alone: a shared one would need it as a closure.
+
 // The first frequency of link l of the sheet s.
 pub fn link_first(s: &[u8], l: usize) -> usize
     requires { HasLink s.now l }

@@ -1,16 +1,10 @@
 -- Laws of the spacing to spare: the difference of two numbers, its sign and its range, and what each kind of rule looks
 -- at.
-use Prim.Native.Nat.{ℕ, zero, suc, ◌+◌, ◌-◌, ◌*◌, ◌^◌, ◌≤◌, ◌<◌}
-use mathlib.Core.Path.{◌≡◌, refl, sym, ap, ap₂, ◌∙◌}
-use mathlib.Core.Bool.{Bool, true, false, not, cond, ◌&&◌}
-use native.Mathlib.Omega.{arith}
-use lib.Dec.{eqb, ltb, leb}
+use Rattle.std.proofs.Common.{ℕ, zero, suc, ◌+◌, ◌-◌, ◌*◌, ◌^◌, ◌≤◌, ◌<◌, ◌≡◌, refl, sym, ap, ◌∙◌, Bool, true, false, not, cond, ◌&&◌, arith, eqb, ltb, leb, w32, w64, SFits, to_z, of_z, eqb-true, ltb-true, ltb-false, leb-true, ne_eqb, lt-ltb, le-ltb, le-leb}
 use lib.IntN.{ℤ, pos, negsuc, sub_ℕ, ◌-ℤ◌}
-use mir.Syntax.{Width, w32, w64}
 use lib.Signed.{mag, le_z}
-use mir.Val.{SFits, hbits, to_z, of_z}
-use mir.ValLaws.{to_z_pos, to_z-of_z}
-use borrow.Author.Tests.{eqb-true, eqb-false, ltb-true, ltb-false, leb-true, ne_eqb, lt-ltb, le-ltb, le-leb, lt-leb}
+use mir.ValLaws.{to_z-of_z}
+use borrow.Author.Tests.{eqb-false, lt-leb}
 use Rattle.sets.proofs.Tests.{bool, iff, and_l, and_in}
 use Rattle.spacing.specs.Spacing.{distance, zero_or_more, spare_by, spare_without, in_range}
 
@@ -32,15 +26,6 @@ unfolding zero_or_more
 sub_allowed a b = bool (ltb a b)
     (λ e. let h = ltb-true a b e in rw (e, lt-leb b a h))
     (λ e. let h = ltb-false a b e in rw (e, le-leb b a h))
-
--- the difference of two numbers that a signed width holds, each as it is read from its bits
-pub sub_fits : (w : Width) (a b : ℕ) → a < 2 ^ hbits w → b < 2 ^ hbits w → SFits w (sub_ℕ a b)
-sub_fits w a b f g = bool (ltb a b)
-    (λ e. rw e (record { sfits = omega arith }))
-    (λ e. rw e (record { sfits = omega arith }))
-
-pub read_minus : (a b : ℕ) → a < 2 ^ 63 → b < 2 ^ 63 → to_z w64 a -ℤ to_z w64 b ≡ sub_ℕ a b
-read_minus a b f g = ap₂ ◌-ℤ◌ (to_z_pos w64 a f) (to_z_pos w64 b g) ∙ minus_is a b
 
 -- what a function hands on
 pub read_back : {z x : ℤ} → mag z < 2 ^ 63 → z ≡ x → to_z w64 (of_z w64 z) ≡ x
@@ -75,11 +60,6 @@ by_one kind value w d l e = rw e refl
 pub by_two : (kind value w d : ℕ) (l : Bool) → kind ≡ 2 → sub_ℕ 0 (2 * distance d value) ≡ spare_by kind value w d l
 unfolding spare_by
 by_two kind value w d l e = rw e refl
-
-pub by_list_lem : (kind value w d : ℕ) (l b : Bool) → (kind ≡ 1 → ⊥) → (kind ≡ 2 → ⊥) → eqb kind 3 && l ≡ b
-    → cond b (pos 0) (negsuc 0) ≡ spare_by kind value w d l
-unfolding spare_by
-by_list_lem kind value w d l b f g e = rw (ne_eqb kind 1 f, ne_eqb kind 2 g, e) refl
 
 -- a rule of kind 3 looks at the list alone, and no other looks at it
 

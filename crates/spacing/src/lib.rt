@@ -10,15 +10,7 @@ ghost use Rattle.spacing.specs.Spacing.{distance as distance_of, zero_or_more, s
 pub fn distance(x: usize, y: usize) -> usize
     ensures { result ≡ distance_of x y }
 {
-    if x < y { y - x } else { x - y }
-}
-
-// What there is less what is asked.
-fn minus(there: u64, asked: u64) -> i64
-    requires { (there < 2 ^ 63) × (asked < 2 ^ 63) }
-    ensures { result ≡ sub_ℕ there asked }
-{
-    there as i64 - asked as i64
+    x.abs_diff(y)
 }
 
 // Whether a pair with so much to spare is allowed.
@@ -32,22 +24,19 @@ pub fn is_allowed(spare: i64) -> bool
 pub fn spare_without(apart: u32) -> i64
     ensures { result ≡ spare_without apart }
 {
-    minus(2 * (apart as u64), 1)
+    2 * i64::from(apart) - 1
 }
 
 // What a rule of a kind and value leaves two frequencies so far apart, whose positions are listed or not, of links with
-// these widths together.
+// these widths together. The kind is a number, as a sheet's may be any.
+#[tactic(auto, using(std::proofs::lemmas::Bool::Decides::nat_tests), unfolding(crate::specs::Spacing::spare_by))]
 pub fn spare_by(kind: usize, value: u32, widths: u32, apart: u32, listed: bool) -> i64
     ensures { result ≡ spare_by kind value widths apart listed }
 {
-    if kind == 1 {
-        return minus(2 * (apart as u64), 2 * (value as u64) + widths as u64);
+    match kind {
+        1 => 2 * i64::from(apart) - 2 * i64::from(value) - i64::from(widths),
+        2 => -2 * i64::from(apart.abs_diff(value)),
+        3 if listed => 0,
+        _ => -1,
     }
-    if kind == 2 {
-        return minus(0, 2 * (distance(apart as usize, value as usize) as u64));
-    }
-    if (kind == 3) & listed {
-        return 0;
-    }
-    minus(0, 1)
 }

@@ -1,34 +1,26 @@
 -- Laws of the answer, of the places of the table, and of a table that is written place by place.
-use Prim.Native.Nat.{ℕ, ◌+◌, ◌*◌, ◌/◌, ◌%◌, ◌≤◌, ◌<◌}
-use mathlib.Core.Path.{◌≡◌, refl, sym, ap, ◌∙◌}
-use mathlib.Core.Bool.{Bool, true, false, ◌&&◌}
-use mathlib.Core.List.{List}
-use native.Mathlib.Omega.{arith}
-use native.Mathlib.Nat.{mul-le-mul, mod-lt, div-lt_iff_lt-mul}
-use lib.Dec.{eqb, ltb, leb}
-use lib.IntN.{ℤ, pos}
-use lib.ListN.{length, get_or, set, length-set}
-use lib.Seq.{get_or-set_same, get_or-set_other}
+use Rattle.std.proofs.Common.{ℕ, ◌*◌, ◌/◌, ◌%◌, ◌≤◌, ◌<◌, ◌≡◌, refl, sym, ap, ◌∙◌, Bool, true, false, ◌&&◌, List, arith, mul-le-mul, mod-lt, div-lt_iff_lt-mul, eqb, ltb, leb, ℤ, pos, length, eqb-true, ltb-true, leb-true, eq-eqb, ne_eqb, le-leb, le-ltb, lt-ltb, Result, Ok, Err, is_ok, replicate}
 use mir.Syntax.{w32}
 use mir.Val.{SFits}
-use borrow.Author.Tests.{eqb-true, eqb-false, ltb-true, leb-true, eq-eqb, ne_eqb, le-leb, lt-leb, le-ltb, lt-ltb}
+use borrow.Author.Tests.{eqb-false, lt-leb}
+use Rattle.std.proofs.lemmas.List.{get_or-replicate, length-replicate}
 use Rattle.sets.specs.Below.{all}
-use Rattle.sets.proofs.Tests.{bool, clash, below, and_l}
+use Rattle.sets.proofs.Tests.{bool, clash, and_l}
 use Rattle.sets.proofs.Below.{all_same}
 use Rattle.sheet_rows.specs.Form.{most_links}
 use Rattle.sheet.specs.Sheet.{k_of, freq_part}
-use Rattle.sheet.specs.Refusal.{cause_number, number_of, passing, refusal}
+use Rattle.sheet.specs.Refusal.{cause_number, passing, refusal}
 use Rattle.sheet.specs.declared.Cause.{Cause}
-use Rattle.sheet.specs.declared.Reading.{Reading}
-use Rattle.sheet.specs.declared.Reading.TheVariants.{Refused}
-use Rattle.sheet.proofs.Causes.{cause_some}
+use Rattle.sheet.proofs.Causes.{cause_some, cause_most}
 use Rattle.sheet.proofs.Accepted.{accepted, refusal_most}
 use Rattle.spacing.specs.Spacing.{in_range}
 use Rattle.pair_test.proofs.Laws.{parts_of}
 use Rattle.spacing.proofs.Spacing.{range_fits}
 use Rattle.pair_test.proofs.Pairing.{spare_range}
 use Rattle.rules.specs.Job.{Job}
-use Rattle.rules.specs.Plans.{has_freq, in_lists, spare_taken, cells_of, checked}
+use Rattle.rules.specs.declared.CheckRefusal.{CheckRefusal}
+use Rattle.rules.specs.declared.CheckRefusal.TheVariants.{Sheet, FewCells, Channels}
+use Rattle.rules.specs.Plans.{has_freq, in_lists, spare_taken, cells_of, checked, check_number}
 use Rattle.rules.specs.Asked.{Taken, cell_listed, cells_spare}
 use Rattle.rules.proofs.Laws.{cell_taken, vertex_in_lem}
 use Rattle.spares.specs.Table.{spare_of, spare_at, Tabled}
@@ -40,13 +32,11 @@ few_places k h = mul-le-mul h h
 
 -- the answer
 
-pub answer_refused : (job : Job) (cells : List ℕ) (room : ℕ) (r : Reading) (x : Cause)
-    → number_of r ≡ refusal job.sheet → r ≡ Refused x → cause_number x ≡ answer_for job cells room
+pub answer_refused : (job : Job) (cells : List ℕ) (room : ℕ) (x : Cause) → cause_number x ≡ refusal job.sheet
+    → cause_number x ≡ answer_for job cells room
 unfolding answer_for
-answer_refused job cells room r x h e =
-    let m : refusal job.sheet ≡ cause_number x = sym h ∙ ap number_of e in
-    let o = cause_some x in
-    rw (m, ne_eqb (cause_number x) 0 (λ z. omega arith))
+answer_refused job cells room x h =
+    let o = cause_some x in rw (← h, ne_eqb (cause_number x) 0 (λ z. omega arith))
 
 pub answer_few : (job : Job) (cells : List ℕ) (room : ℕ) → refusal job.sheet ≡ 0
     → room < k_of job.sheet * k_of job.sheet → 10 ≡ answer_for job cells room
@@ -62,6 +52,15 @@ answer_checked job cells room e h = rw (e, le-leb (k_of job.sheet * k_of job.she
 pub judged_not : (x : ℕ) → 0 < x → x ≤ 17 → judged x ≡ false
 unfolding judged
 judged_not x h l = rw (ne_eqb x 0 (λ e. omega arith), ne_eqb x 100 (λ e. omega arith))
+
+-- the answers that are no refusal
+pub judged_ok : (r : Result Bool CheckRefusal) → is_ok r ≡ judged (check_number r)
+unfolding judged
+judged_ok (Ok true) = refl
+judged_ok (Ok false) = refl
+judged_ok (Err FewCells) = sym (judged_not 10 (omega arith) (omega arith))
+judged_ok (Err Channels) = sym (judged_not 17 (omega arith) (omega arith))
+judged_ok (Err (Sheet x)) = sym (judged_not _ (cause_some x) (omega (arith, cause_most x)))
 
 -- judged cells are enough for the links of an accepted sheet
 pub judged_checked : (job : Job) (cells : List ℕ) (room : ℕ) → judged (answer_for job cells room) ≡ true
@@ -111,25 +110,12 @@ pub cells_fit : {s cells : List ℕ} {a b : ℕ} → Taken s cells → a < k_of 
     → SFits w32 (cells_spare s cells a b)
 cells_fit {s} {cells} {a} {b} t x y = range_fits (cells_spare s cells a b) (cells_range t x y)
 
--- a table written place by place: up to place m it has f
-pub record TabledTo (f : ℕ → ℤ) (m : ℕ) (p₀ p : List ℤ) : Type 0 where
-  pub size : length p ≡ length p₀
-  pub each : (i : ℕ) → i < m → get_or p i (pos 0) ≡ f i
-
-pub table_none : (f : ℕ → ℤ) (p : List ℤ) → TabledTo f 0 p p
-table_none f p = record { size = refl; each = λ i l. absurd (omega arith) }
-
-pub table_more : {f : ℕ → ℤ} {m : ℕ} {p₀ p : List ℤ} (v : ℤ) → m < length p → v ≡ f m → TabledTo f m p₀ p
-    → TabledTo f (m + 1) p₀ (set p m v)
-table_more {f} {m} {p₀} {p} v l e T = record {
-  size = length-set p m v ∙ T.size;
-  each = λ i h. below i m (omega arith)
-      (λ g. get_or-set_other p m i v (pos 0) (λ q. omega arith) ∙ T.each i g)
-      (λ q. rw q (get_or-set_same p m v (pos 0) l ∙ e));
+-- a table of zeros
+pub tabled_zero : (room : ℕ) (p : List ℤ) → p ≡ replicate room (pos 0) → Tabled (λ _. pos 0) room p
+tabled_zero room p e = record {
+  size = rw e (length-replicate room (pos 0));
+  each = λ i h. rw e (get_or-replicate room i (pos 0) (pos 0) h);
 }
-
-pub table_done : {f : ℕ → ℤ} {m : ℕ} {p₀ p : List ℤ} → length p ≤ m → TabledTo f m p₀ p → Tabled f (length p₀) p
-table_done l T = record { size = T.size; each = λ i h. T.each i (omega (arith, T.size)) }
 
 -- a table of one function is a table of another with the same places
 pub tabled_as : {f g : ℕ → ℤ} {room : ℕ} {p : List ℤ} → ((i : ℕ) → i < room → f i ≡ g i) → Tabled f room p

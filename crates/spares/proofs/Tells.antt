@@ -1,13 +1,7 @@
 -- A table that is shown tells which pair clashes.
-use Prim.Native.Nat.{ℕ, ◌*◌, ◌<◌}
-use mathlib.Core.Path.{◌≡◌, refl, sym, ap, ◌∙◌}
-use mathlib.Core.Bool.{Bool, true, false}
-use mathlib.Core.List.{List}
+use Rattle.std.proofs.Common.{ℕ, ◌*◌, ◌<◌, ◌≡◌, refl, sym, ap, ◌∙◌, Bool, true, false, List, arith, eqb, leb, length, eqb-true, eq-eqb, ne_eqb, le-leb, leb-false}
 use native.Mathlib.Decide.{dec_lt}
-use native.Mathlib.Omega.{arith}
-use lib.Dec.{eqb, leb}
-use lib.ListN.{length}
-use borrow.Author.Tests.{eqb-true, eqb-false, eq-eqb, ne_eqb, le-leb, lt-leb, leb-false}
+use borrow.Author.Tests.{eqb-false, lt-leb}
 use Rattle.sets.specs.Below.{all}
 use Rattle.sets.proofs.Tests.{bool, clash, and_l, and_r, and_in, or_l, or_r}
 use Rattle.sets.proofs.Below.{all_in, all_out}

@@ -13,52 +13,42 @@ ghost use Rattle.rules.specs.Plans.{check_number};
 ghost use Rattle.rules.specs.Asked.{cell_listed};
 ghost use Rattle.spares.specs.Spares.{answer_for, judged, Answered};
 
-use rules::{CheckAnswer, cells_listed, check_accepted};
-use sheet::{Reading, check_sheet, links_of};
-use table::{clear, fill};
+use rules::{CheckRefusal, cells_listed, check_accepted};
+use sheet::{check_sheet, links_of};
+use table::fill;
 
 // The answer of a call that is lent a table of so many places.
-fn answer_for(s: &[u8], channels: &[u8], cells: &[u32], room: usize) -> CheckAnswer
+fn answer_for(s: &[u8], channels: &[u8], cells: &[u32], room: usize) -> Result<bool, CheckRefusal>
     ensures { check_number result
         ≡ answer_for (job_with s.now channels.now) cells.now room }
 {
-    if let Reading::Refused(cause) = check_sheet(s) {
-        return CheckAnswer::Refused(cause);
-    }
+    check_sheet(s)?;
     let k = links_of(s);
     if room < k * k {
-        return CheckAnswer::Few;
+        return Err(CheckRefusal::FewCells);
     }
     check_accepted(s, channels, cells)
 }
 
-// Whether an answer is no refusal.
-fn is_judged(answer: CheckAnswer) -> bool
-    ensures { result ≡ judged (check_number answer) }
-{
-    match answer {
-        CheckAnswer::No => true,
-        CheckAnswer::Yes => true,
-        CheckAnswer::Few => false,
-        CheckAnswer::BadChannels => false,
-        CheckAnswer::Refused(_) => false,
-    }
-}
-
-// Whether the table is shown with this answer.
-fn is_shown(s: &[u8], cells: &[u32], answer: CheckAnswer) -> bool
+// Whether the table is shown with this answer: cells that were judged are each in its link's list.
+fn is_shown(s: &[u8], cells: &[u32], answer: Result<bool, CheckRefusal>) -> bool
     requires { judged (check_number answer) ≡ true → Accepted s.now × (k_of s.now ≤ length cells.now) }
     ensures { result ≡ (judged (check_number answer)
         && all (k_of s.now) (cell_listed s.now cells.now)) }
 {
-    if !is_judged(answer) {
+    if answer.is_err() {
         return false;
     }
     cells_listed(s, cells)
 }
 
 // The answer, with the table filled where it is shown and zero elsewhere, for any bytes, channels, cells and table.
-pub fn spares(s: &[u8], channels: &[u8], cells: &[u32], table: &mut [i32]) -> CheckAnswer
+pub fn spares(
+    s: &[u8],
+    channels: &[u8],
+    cells: &[u32],
+    table: &mut [i32],
+) -> Result<bool, CheckRefusal>
     ensures { Answered (job_with s.now channels.now) cells.now
         (length table.old) (check_number result) table.new }
 {
@@ -66,7 +56,7 @@ pub fn spares(s: &[u8], channels: &[u8], cells: &[u32], table: &mut [i32]) -> Ch
     if is_shown(s, cells, answer) {
         fill(s, cells, table);
     } else {
-        clear(table);
+        table.fill(0);
     }
     answer
 }

@@ -30,21 +30,7 @@ pub fn fill(s: &[u8], cells: &[u32], table: &mut [i32])
         table.new }
 {
     let k = links_of(s);
-    let mut i = 0;
-    while i < table.len() {
-        let spare = place_spare(s, cells, k, i);
-        table[i] = spare;
-        i += 1;
-    }
-}
-
-// A table of zeros.
-pub fn clear(table: &mut [i32])
-    ensures { Tabled (λ _. pos 0) (length table.old) table.new }
-{
-    let mut i = 0;
-    while i < table.len() {
-        table[i] = 0;
-        i += 1;
+    for (i, place) in table.iter_mut().enumerate() {
+        *place = place_spare(s, cells, k, i);
     }
 }

@@ -1,7 +1,7 @@
 // The call for spares with numbers and byte slices. The contracts cite specs/SparesBytes.antt, for every input.
 #![tactic(auto)]
 
-ghost use Rattle.std.specs.Prelude.{◌≡◌, ◌*◌, ◌/◌, ◌≤◌, min, pos, length, get_or};
+ghost use Rattle.std.specs.Prelude.{◌≡◌, ◌*◌, ◌≤◌, pos, length, get_or};
 ghost use Rattle.sets.specs.Below.{tabulate};
 ghost use Rattle.rules.specs.Job.{job_with};
 ghost use Rattle.spares.specs.Spares.{answer_for};
@@ -9,19 +9,9 @@ ghost use Rattle.byte_calls.specs.ByteCalls.{cell_in, cells_in, cell_bytes};
 ghost use Rattle.spares_bytes.specs.SparesBytes.{bits32, table_bits, SparesHanded};
 
 use byte_calls::{get_cells, lent};
-use number_bytes::put_fours;
+use number_bytes::put_numbers;
 use rules::check_number;
 use spares::spares;
-
-// A signed number as 32 bits.
-fn bits_of(z: i32) -> u32
-    ensures { result ≡ bits32 z }
-{
-    if z < 0 {
-        return 4294967295 - (-1 - z) as u32;
-    }
-    z as u32
-}
 
 // The numbers of a table as 32 bits each.
 fn get_bits(from: &[i32], to: &mut [u32])
@@ -29,20 +19,9 @@ fn get_bits(from: &[i32], to: &mut [u32])
     ensures { to.new
         ≡ tabulate (length to.old) (λ i. bits32 (get_or from.now i (pos 0))) }
 {
-    let mut i = 0;
-    while i < to.len() {
-        let z = from[i];
-        to[i] = bits_of(z);
-        i += 1;
+    for (i, bits) in to.iter_mut().enumerate() {
+        *bits = from[i].cast_unsigned();
     }
-}
-
-// The places that the library is lent: no sheet has more than 128 links.
-fn places(bytes: usize) -> usize
-    ensures { (result ≡ min (bytes / 4) 16384) × (result ≤ 16384) }
-{
-    let m = bytes / 4;
-    if m < 16384 { m } else { 16384 }
 }
 
 // The spares of the first cells in some bytes, as many as are lent, in the table and bits lent, and as bytes.
@@ -65,8 +44,8 @@ fn spares_into(
     get_cells(from, cells);
     let answer = spares(sheet, channels, cells, table);
     get_bits(table, bits);
-    put_fours(bits, to);
-    check_number(answer) as u64
+    put_numbers(bits, to);
+    u64::from(check_number(answer))
 }
 
 // What the cells in some bytes have to spare, and what the check says of them. The table is the call's own.
@@ -77,8 +56,8 @@ pub fn spares_bytes(sheet: &[u8], channels: &[u8], from: &[u8], to: &mut [u8]) -
     let mut cells = [0u32; 128];
     let mut table = [0i32; 16384];
     let mut bits = [0u32; 16384];
-    let m = lent(from.len(), 128);
-    let n = places(to.len());
+    let m = lent::<u32>(from.len(), 128);
+    let n = lent::<u32>(to.len(), 16384);
     spares_into(
         sheet,
         channels,

@@ -1,11 +1,6 @@
 -- Rows that are cut to the vertices that are left are the rows of the job's graph.
-use mathlib.Core.Path.{◌≡◌, refl, sym, ap, ◌∙◌, fun_ext}
-use mathlib.Core.Bool.{true, false, not, cond}
-use mathlib.Core.List.{List}
-use Prim.Native.Nat.{ℕ, ◌≤◌, ◌<◌}
-use native.Mathlib.Omega.{arith}
-use lib.Dec.{ltb}
-use borrow.Author.Tests.{ltb-true}
+use Rattle.std.proofs.Common.{◌≡◌, refl, sym, ap, ◌∙◌, true, false, not, cond, List, ℕ, ◌≤◌, ◌<◌, arith, ltb, ltb-true}
+use mathlib.Core.Path.{fun_ext}
 use Rattle.sets.specs.Sets.{Set, ◌∩◌, ◌∖◌, nothing, whole}
 use Rattle.sets.proofs.Tests.{bool, iff, and_l, and_in, and_false}
 use Rattle.sets.proofs.Sets.{meet_l, meet_r, meet_in}

@@ -61,10 +61,8 @@ pub fn put_unstruck(part: &mut [u64], w: usize, sheet: &[u8], channels: &[u8])
 {
     let n = freqs_of(sheet);
     put_all(part, w, n);
-    let mut v = 0;
-    while v < n {
+    for v in 0..n {
         strike_vertex(part, w, sheet, channels, v);
-        v += 1;
     }
 }
 
@@ -91,11 +89,8 @@ pub fn strike_graph(part: &mut [u64], place: Place, sheet: &[u8], channels: &[u8
     ensures { Built (edge (job_with sheet.now channels.now))
         place.w place.graph place.n part.old part.new }
 {
-    let n = place.n;
-    let mut u = 0;
-    while u < n {
+    for u in 0..place.n {
         strike_row(part, place, sheet, channels, u);
-        u += 1;
     }
 }
 
@@ -105,10 +100,8 @@ pub fn cut_rows(part: &mut [u64], w: usize, at: usize, m: usize)
     ensures { Rewritten (λ (c : ℕ) (S : Set). S ∩ set_at part.old w 0) 0 m w at m
         part.old part.new }
 {
-    let mut c = 0;
-    while c < m {
+    for c in 0..m {
         let row = rows::row_at(at, w, c, m);
         rows::meet(part, w, row, row, 0);
-        c += 1;
     }
 }

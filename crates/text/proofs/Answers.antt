@@ -7,12 +7,12 @@ use native.Mathlib.Omega.{arith}
 use lib.ListN.{length}
 use borrow.Author.Tests.{ne_eqb, le-leb, lt-leb}
 use Rattle.planner.specs.Outcome.{Outcome}
-use Rattle.output.specs.Output.{Wrote}
-use Rattle.output.proofs.Wrote.{wrote_then}
+use Rattle.output.specs.declared.Output.{Output}
+use Rattle.output.specs.Puts.{Puts}
+use Rattle.output.proofs.Puts.{puts_then, puts_same}
 use Rattle.lines.specs.Lines.{ascii, line}
 use Rattle.text.specs.Text.{found_text, printed_of, printed}
-use Rattle.text.specs.Written.{Holds, PutLines, most_bytes, printed_in}
-use Rattle.text.proofs.Holding.{wrote_holds, same_holds}
+use Rattle.text.specs.Written.{PutLines, most_bytes, printed_in}
 use Rattle.text.proofs.Links.{lines_after}
 
 module _ (k : ℕ) (o : Outcome) where
@@ -34,12 +34,10 @@ module _ (k : ℕ) (o : Outcome) where
   printed_refused f g h = rw (ne_eqb o.answer 100 f, ne_eqb o.answer 101 g, ne_eqb o.answer 102 h, printed_of)
 
   -- the first line and the links' lines
-  pub found_holds : {before first left : List ℕ} {at r : ℕ} → o.answer ≡ 100 → k ≤ 64 → at ≤ 17
-      → most_bytes ≤ length before → Wrote (line (ascii "found") o.nodes) before 0 first at
-      → PutLines k o.cells first at left r → Holds (printed_of k o) before left r
-  found_holds e f g h p q =
-      same_holds (printed_found e ∙ sym (lines_after k o.cells (line (ascii "found") o.nodes)))
-      (wrote_holds (omega (arith, q.few)) (wrote_then p q.wrote))
+  pub found_put : {before first left : Output} → o.answer ≡ 100 → Puts (line (ascii "found") o.nodes) before first
+      → PutLines k o.cells first left → Puts (printed_of k o) before left
+  found_put e p q =
+      puts_same (lines_after k o.cells (line (ascii "found") o.nodes) ∙ sym (printed_found e)) (puts_then p q.put)
 
 -- no other text names a link
 pub printed_any : (o : Outcome) (k j : ℕ) → (o.answer ≡ 100 → ⊥) → printed_of k o ≡ printed_of j o

@@ -10,8 +10,7 @@ use Rattle.sheet.specs.Refusal.{refusal}
 use Rattle.rules.specs.Job.{job_of}
 use Rattle.setting.specs.Setting.{Setting}
 use Rattle.planner.specs.Outcome.{Outcome}
-use Rattle.planner.specs.Planned.{Gives, verdict_number, gave}
-use Rattle.planner.specs.declared.Planned.{Planned}
+use Rattle.planner.specs.Planned.{Planned, Gives, verdict_number, gave}
 use Rattle.planner.proofs.Accepted.{call_accepted}
 use Rattle.planner.proofs.Outcomes.{gave_outcome}
 use Rattle.planner.proofs.Found.{found_accepted}
@@ -21,7 +20,7 @@ use Rattle.text.specs.Text.{printed_of}
 
 module _ (s : List ℕ) (x : Setting) (m w : ℕ) where
   pub found_links : {r : Planned} {cells : List ℕ} → Gives (hall_outcome (job_of s) x m w) r cells
-      → verdict_number r.verdict ≡ 100 → (refusal s ≡ 0) × (k_of s ≤ m) × (k_of s ≤ hall_links)
+      → verdict_number r ≡ 100 → (refusal s ≡ 0) × (k_of s ≤ m) × (k_of s ≤ hall_links)
   found_links g e = go (is_festival s) refl
     where
       answer : (hall_outcome (job_of s) x m w).answer ≡ 100

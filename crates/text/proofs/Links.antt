@@ -6,26 +6,27 @@ use native.Mathlib.Numerals.{add-one}
 use native.Mathlib.Omega.{arith}
 use lib.ListN.{get_or}
 use Rattle.sets.specs.Below.{loop}
-use Rattle.output.specs.Output.{Wrote}
-use Rattle.output.proofs.Wrote.{wrote_none, wrote_then}
+use Rattle.output.specs.declared.Output.{Output}
+use Rattle.output.specs.Puts.{Puts}
+use Rattle.output.proofs.Puts.{puts_none, puts_then}
 use Rattle.lines.specs.Lines.{decimal, line}
 use Rattle.text.specs.Text.{link_lines}
 use Rattle.text.specs.Written.{PutLines}
 
-pub lines_none : (cells text : List ℕ) (at : ℕ) → PutLines 0 cells text at text at
+pub lines_none : (cells : List ℕ) (o : Output) → PutLines 0 cells o o
 unfolding link_lines loop
-lines_none cells text at = record { few = omega arith; wrote = wrote_none text at }
+lines_none cells o = record { few = omega arith; put = puts_none o }
 
-pub lines_more : {l at e r : ℕ} {cells t m n : List ℕ} → PutLines l cells t at m e
-    → Wrote (line (decimal l) (get_or cells l 0)) m e n r → r ≤ e + 22 → PutLines (l + 1) cells t at n r
+pub lines_more : {l : ℕ} {cells : List ℕ} {o p q : Output} → PutLines l cells o p
+    → Puts (line (decimal l) (get_or cells l 0)) p q → q.end ≤ p.end + 22 → PutLines (l + 1) cells o q
 unfolding link_lines loop
-lines_more {l} {at} {e} {r} {cells} {t} {m} {n} p q h = record {
-  few = omega (arith, p.few);
-  wrote = rw add-one (wrote_then p.wrote q);
+lines_more {l} {cells} a b h = record {
+  few = omega (arith, a.few);
+  put = rw add-one (puts_then a.put b);
 }
 
-pub lines_done : {l k at e : ℕ} {cells t m : List ℕ} → l ≡ k → PutLines l cells t at m e → PutLines k cells t at m e
-lines_done {l} {k} {at} {e} {cells} {t} {m} h p = subst (λ x. PutLines x cells t at m e) h p
+pub lines_done : {l k : ℕ} {cells : List ℕ} {o p : Output} → l ≡ k → PutLines l cells o p → PutLines k cells o p
+lines_done {l} {k} {cells} {o} {p} h a = subst (λ x. PutLines x cells o p) h a
 
 -- the lines after a text
 pub lines_after : (k : ℕ) (cells t : List ℕ) → t ++ link_lines k cells [] ≡ link_lines k cells t

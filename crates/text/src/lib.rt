@@ -11,39 +11,38 @@ ghost use Rattle.sheet.specs.Refusal.{refusal};
 ghost use Rattle.rules.specs.Job.{job_of};
 ghost use Rattle.planner.specs.Planned.{verdict_number, gave};
 ghost use Rattle.hall_plan.specs.Hall.{hall_outcome};
+ghost use Rattle.output.specs.Puts.{Puts};
 ghost use Rattle.text.specs.Text.{program_setting, printed_of};
 ghost use Rattle.text.specs.Written.{Holds, most_bytes, printed_in};
 
 use hall_plan::plan_hall;
 use lines::put_line;
 use link_lines::put_link_lines;
-use planner::{Planned, verdict_number};
+use output::Output;
+use planner::Planned;
+use search::RunVerdict;
 use setting::Options;
 use sheet::links_of;
 
 // An answer as text. A plan is found only for a sheet that was accepted, with a cell for each link and no more links
 // than a hall has.
-fn put_answer(p: Planned, sheet: &[u8], cells: &[u32], text: &mut [u8]) -> usize
-    requires { (most_bytes ≤ length text.old) × (verdict_number p.verdict ≡ 100
+fn put_answer(planned: Planned, sheet: &[u8], cells: &[u32], out: &mut Output)
+    requires { (out.old.end ≡ 0) × (verdict_number planned ≡ 100
         → (refusal sheet.now ≡ 0) × (k_of sheet.now ≤ length cells.now) × (k_of sheet.now ≤ hall_links)) }
-    ensures { Holds (printed_of (k_of sheet.now) (gave p cells.now))
-        text.old text.new result }
+    ensures { Puts (printed_of (k_of sheet.now) (gave planned cells.now)) out.old out.new
+        × (out.new.end ≤ most_bytes) }
 {
-    let nodes = p.nodes;
-    let verdict = p.verdict;
-    let number = verdict_number(verdict);
-    if number == 100 {
-        let k = links_of(sheet);
-        let at = put_line(text, 0, b"found", nodes);
-        return put_link_lines(text, at, cells, k);
+    match planned {
+        Ok(run) => match run.verdict {
+            RunVerdict::Found => {
+                put_line(out, b"found", run.nodes);
+                put_link_lines(out, cells, links_of(sheet));
+            }
+            RunVerdict::None => put_line(out, b"none", run.nodes),
+            RunVerdict::Stopped => put_line(out, b"stopped", run.nodes),
+        },
+        Err(refusal) => put_line(out, b"refused", u32::from(refusal)),
     }
-    if number == 101 {
-        return put_line(text, 0, b"none", nodes);
-    }
-    if number == 102 {
-        return put_line(text, 0, b"stopped", nodes);
-    }
-    put_line(text, 0, b"refused", number)
 }
 
 // Plans a sheet in the cells and words lent, with no list of channels, and puts the answer.
@@ -59,7 +58,9 @@ fn put_planned(sheet: &[u8], cells: &mut [u32], work: &mut [u64], text: &mut [u8
         limit: 1000000,
     };
     let p = plan_hall(sheet, b"", options, b"", cells, work);
-    put_answer(p, sheet, cells, text)
+    let mut out = Output::new(text);
+    put_answer(p, sheet, cells, &mut out);
+    out.end
 }
 
 // The text for a sheet, and how many bytes it has; nothing where there is not room for any text.

@@ -2,66 +2,62 @@
 ghost use Rattle.std.specs.Prelude.{◌≡◌, length};
 
 use std::io;
-use trial_calls::{ANY, MOST, checks, plans, under_filters, want};
-use trial_job::{codes, filled, first_plan, pairs_kept, pick, placed, put_greedy, put_layers};
+use trial_calls::{MOST, checks, plans, under_filters, want};
+use trial_job::{
+    best_plan, codes, fits_greedy, keeps_apart, keeps_rules, none_empty, pick, put_layers,
+};
 use trial_parts::kept::{CHOICE, EMPTIED, K, LAYERED, N, PLAN, REFUSED, WITH};
-use trial_parts::{either, get, khz, more, plus, put, put_cell};
+use trial_parts::{get, khz, more, narrow, put};
 
 // The frequency that an assignment takes for a link; 0 past the links.
 fn khz_taken(job: &[usize], picks: &[usize], link: usize) -> usize {
     if link < get(job, K) {
-        return khz(job, get(picks, link));
+        khz(job, get(picks, link))
+    } else {
+        0
     }
-    0
 }
 
 // The frequencies that an assignment takes, as the plan wanted.
 fn want_plan(job: &mut [usize], picks: &[usize]) {
-    let mut l = 0;
-    while l < 136 {
+    for l in 0..136 {
         let f = khz_taken(job, picks, l);
-        put(job, plus(PLAN, l), f);
-        l += 1;
+        put(job, PLAN + l, f);
     }
 }
 
 // The same as cells.
 fn put_cells(job: &[usize], picks: &[usize], cells: &mut [u32]) {
-    let mut l = 0;
-    while l < cells.len() {
-        put_cell(cells, l, khz_taken(job, picks, l));
-        l += 1;
+    for (l, cell) in cells.iter_mut().enumerate() {
+        *cell = narrow(khz_taken(job, picks, l));
     }
 }
 
 // The number wanted under a partition, with the first plan where there is one.
 fn wanted(job: &mut [usize], graph: &[usize], classes: &[u8]) -> usize {
-    let mut picks = [0usize; 8];
-    let code = first_plan(job, graph, classes);
-    if codes(job) <= code {
+    let Some(code) = best_plan(job, graph, classes) else {
         return 101;
-    }
+    };
+    let mut picks = [0usize; 8];
     pick(job, code, &mut picks);
     want_plan(job, &picks);
     100
 }
 
-// The nodes that are known: none where a layer or a class is left empty.
-fn known_nodes(kept: &[usize], graph: &[usize], classes: &[u8]) -> usize {
-    let k = get(kept, K);
-    either(filled(graph, get(kept, N), k, classes) < k, 0, ANY)
+// The nodes that are known of every tree: none where a layer or a class is left empty.
+fn known_nodes(kept: &[usize], graph: &[usize], classes: &[u8]) -> Option<usize> {
+    let can_fill = none_empty(graph, get(kept, N), get(kept, K), classes);
+    (!can_fill).then_some(0)
 }
 
 // Counts a sheet with a plan, or with a link left empty, once for all choices.
-fn count_sheet(kept: &mut [usize], number: usize, known: usize) {
+fn count_sheet(kept: &mut [usize], number: usize, known: Option<usize>) {
     if get(kept, CHOICE) != 0 {
         return;
     }
     if number == 100 {
         more(kept, WITH);
-        return;
-    }
-    if known == 0 {
+    } else if known == Some(0) {
         more(kept, EMPTIED);
     }
 }
@@ -96,8 +92,7 @@ fn under_layers(
 }
 
 fn put_classes(kept: &mut [usize], graph: &[usize], list: &mut [u8]) {
-    let n = get(kept, N);
-    if put_greedy(graph, n, get(kept, K), list) < n {
+    if !fits_greedy(graph, get(kept, N), get(kept, K), list) {
         more(kept, LAYERED);
     }
 }
@@ -119,10 +114,7 @@ fn under_greedy(
 // Whether a list of the caller is a partition of the vertices in classes below k.
 fn is_partition(kept: &[usize], graph: &[usize], list: &[u8]) -> bool {
     let n = get(kept, N);
-    if list.len() != n {
-        return false;
-    }
-    placed(graph, n, get(kept, K), list) == n
+    list.len() == n && keeps_apart(graph, n, get(kept, K), list)
 }
 
 // Choice 2, with a list that may be no partition.
@@ -138,7 +130,7 @@ fn under_callers(
         return under_choice(rt, kept, graph, sheet, callers, callers);
     }
     more(kept, REFUSED);
-    want(kept, MOST, 12, 0);
+    want(kept, MOST, 12, Some(0));
     plans(rt, kept, sheet, callers)
 }
 
@@ -154,10 +146,9 @@ fn check_code(
     let mut cells = [0u32; 8];
     pick(job, code, &mut picks);
     put_cells(job, &picks, &mut cells);
-    if pairs_kept(graph, get(job, K), &picks) == 64 {
-        return checks(rt, job, sheet, &cells, 100);
-    }
-    checks(rt, job, sheet, &cells, 0)
+    let is_plan = keeps_rules(graph, get(job, K), &picks);
+    let number = if is_plan { 100 } else { 0 };
+    checks(rt, job, sheet, &cells, number)
 }
 
 // All assignments.
@@ -167,13 +158,10 @@ fn check_codes(
     graph: &[usize],
     sheet: &[u8],
 ) -> io::Result<bool> {
-    let end = codes(job);
-    let mut code = 0;
-    while code < end {
+    for code in 0..codes(job) {
         if !check_code(rt, job, graph, sheet, code)? {
             return Ok(false);
         }
-        code += 1;
     }
     Ok(true)
 }
@@ -188,14 +176,10 @@ pub fn beside(
 ) -> io::Result<bool>
     ensures { length job.new ≡ length job.old }
 {
-    if !under_layers(rt, job, graph, sheet, callers)? {
-        return Ok(false);
-    }
-    if !under_greedy(rt, job, graph, sheet, callers)? {
-        return Ok(false);
-    }
-    if !under_callers(rt, job, graph, sheet, callers)? {
-        return Ok(false);
-    }
-    check_codes(rt, job, graph, sheet)
+    Ok(
+        under_layers(rt, job, graph, sheet, callers)?
+            && under_greedy(rt, job, graph, sheet, callers)?
+            && under_callers(rt, job, graph, sheet, callers)?
+            && check_codes(rt, job, graph, sheet)?,
+    )
 }

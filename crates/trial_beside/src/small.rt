@@ -43,12 +43,10 @@ pub fn small_sheets(rt: &impl Print, job: &mut [usize], m: usize) -> io::Result<
     ensures { length job.new ≡ length job.old }
 {
     put(job, SEED, 1);
-    let mut i = 0;
-    while i < m {
+    for _ in 0..m {
         if !small_sheet(rt, job)? {
             return Ok(false);
         }
-        i += 1;
     }
     Ok(true)
 }

@@ -1,54 +1,40 @@
 // Calls of the planner and of the check beside what is wanted of them. A difference is printed.
-ghost use Rattle.std.specs.Prelude.{◌≡◌, ◌≢◌, ◌+◌, ◌%◌, ◌^◌, IfOk, OnErr, eqb, get_or, length, set};
+ghost use Rattle.std.specs.Prelude.{◌≡◌, ◌≢◌, ◌+◌, ◌%◌, ◌^◌, ◌≤◌, IfOk, OnErr, eqb, get_or, length, set};
 ghost use Rattle.rules.specs.Job.{job_with};
 ghost use Rattle.rules.specs.Plans.{checked};
 
-use crate::report::line;
 use setting::Options;
 use std::io;
 use trial_parts::kept::{
     CALLS, CHANNELS, CHECKS, CHOICE, FILTER, LIMIT, NODES, NUMBER, ON_AIR, PLAN, WANTED,
 };
-use trial_parts::{
-    either, first_bytes, get, get_byte, get_cell, more, narrow, plus, put, put_bytes,
-};
+use trial_parts::{first_bytes, get, more, narrow, put, put_bytes};
 use trial_spares::shows;
 
-// Any number of nodes; and the number wanted of a call that is to be accepted, whatever its answer.
+// Any number of nodes; and the number wanted of a call that is to be accepted, whatever its answer. Both are numbers, as
+// the table that the test program keeps has no others.
 pub const ANY: usize = 4294967296;
 
 pub const ACCEPTED: usize = 0;
 
-// The limit of the next planning call, and the number and the nodes wanted of it.
-pub fn want(kept: &mut [usize], limit: usize, number: usize, nodes: usize)
+// The limit of the next planning call, and the number and, if they are known, the nodes wanted of it.
+pub fn want(kept: &mut [usize], limit: usize, number: usize, nodes: Option<usize>)
     ensures { length kept.new ≡ length kept.old }
 {
     put(kept, LIMIT, limit);
     put(kept, NUMBER, number);
-    put(kept, WANTED, nodes);
+    put(kept, WANTED, nodes.unwrap_or(ANY));
 }
 
-// The number of a planning call's answer with the channels on air; its nodes are kept.
-fn ask_on(
-    kept: &mut [usize],
-    sheet: &[u8],
-    channels: &[u8],
-    callers: &[u8],
-    cells: &mut [u32],
-    work: &mut [u64],
-) -> usize {
-    let options = Options {
+fn setting_of(kept: &[usize]) -> Options {
+    Options {
         filter: narrow(get(kept, FILTER)),
         choice: narrow(get(kept, CHOICE)),
         limit: narrow(get(kept, LIMIT)),
-    };
-    let p = planner::plan(sheet, channels, options, callers, cells, work);
-    put(kept, NODES, p.nodes as usize);
-    let verdict = p.verdict;
-    planner::verdict_number(verdict) as usize
+    }
 }
 
-// The same with the channels of the job.
+// The number of a planning call's answer with the channels of the job; its nodes are kept.
 fn ask(
     kept: &mut [usize],
     sheet: &[u8],
@@ -58,38 +44,26 @@ fn ask(
 ) -> usize {
     let mut channels = [0u8; 60];
     put_bytes(kept, CHANNELS, &mut channels);
-    let m = get(kept, ON_AIR);
-    ask_on(kept, sheet, first_bytes(&channels, m), callers, cells, work)
-}
-
-fn all_zero(work: &[u64]) -> bool {
-    let mut i = 0;
-    while i < work.len() {
-        if work[i] != 0 {
-            return false;
-        }
-        i += 1;
-    }
-    true
+    let on_air = first_bytes(&channels, get(kept, ON_AIR));
+    let planned = planner::plan(sheet, on_air, setting_of(kept), callers, cells, work);
+    put(kept, NODES, planner::node_count(planned) as usize);
+    planner::answer_number(planned) as usize
 }
 
 // Whether the cells are those of the plan wanted where one is found, and zeros else.
 fn holds_plan(kept: &[usize], cells: &[u32], found: bool) -> bool {
-    let mut i = 0;
-    while i < cells.len() {
-        if get_cell(cells, i) != either(found, get(kept, plus(PLAN, i)), 0) {
-            return false;
-        }
-        i += 1;
-    }
-    true
+    cells.iter().enumerate().all(|(l, cell)| {
+        let wanted = if found {
+            get(kept, PLAN.wrapping_add(l))
+        } else {
+            0
+        };
+        *cell as usize == wanted
+    })
 }
 
 fn are_wanted(kept: &[usize], nodes: usize) -> bool {
-    if get(kept, WANTED) == ANY {
-        return true;
-    }
-    get(kept, WANTED) == nodes
+    get(kept, WANTED) == ANY || get(kept, WANTED) == nodes
 }
 
 // Whether an answer and the cells are as wanted.
@@ -97,13 +71,9 @@ fn is_as_wanted(kept: &[usize], number: usize, cells: &[u32]) -> bool {
     if get(kept, NUMBER) == ACCEPTED {
         return 100 <= number;
     }
-    if get(kept, NUMBER) != number {
-        return false;
-    }
-    if !are_wanted(kept, get(kept, NODES)) {
-        return false;
-    }
-    holds_plan(kept, cells, number == 100)
+    get(kept, NUMBER) == number
+        && are_wanted(kept, get(kept, NODES))
+        && holds_plan(kept, cells, number == 100)
 }
 
 fn print_difference(
@@ -112,21 +82,19 @@ fn print_difference(
     number: usize,
     cells: &[u32],
 ) -> io::Result<()> {
-    line(
-        rt,
-        b"difference under filter, choice, limit",
+    println!(rt;
+        "difference under filter, choice, limit {} {} {}",
         get(kept, FILTER),
         get(kept, CHOICE),
-        get(kept, LIMIT),
+        get(kept, LIMIT)
     )?;
-    line(
-        rt,
-        b"wanted number, nodes, first cell",
+    println!(rt;
+        "wanted number, nodes, first cell {} {} {}",
         get(kept, NUMBER),
         get(kept, WANTED),
-        get(kept, PLAN),
+        get(kept, PLAN)
     )?;
-    line(rt, b"got", number, get(kept, NODES), get_cell(cells, 0))
+    println!(rt; "got {number} {} {}", get(kept, NODES), get(cells, 0))
 }
 
 // The number of the plan check's answer.
@@ -153,12 +121,9 @@ fn checks_on(
     if got == number {
         return Ok(true);
     }
-    line(
-        rt,
-        b"difference: check, wanted, first cell",
-        got,
-        number,
-        get_cell(cells, 0),
+    println!(rt;
+        "difference: check, wanted, first cell {got} {number} {}",
+        get(cells, 0)
     )?;
     Ok(false)
 }
@@ -196,10 +161,7 @@ pub fn checks(
 ) -> io::Result<bool>
     ensures { length kept.new ≡ length kept.old }
 {
-    if !is_checked(rt, kept, sheet, cells, number)? {
-        return Ok(false);
-    }
-    shows(rt, kept, sheet, cells, number)
+    Ok(is_checked(rt, kept, sheet, cells, number)? && shows(rt, kept, sheet, cells, number)?)
 }
 
 // Whether a planning call in these cells and words gives the number and the nodes wanted, the plan where it is found,
@@ -220,46 +182,32 @@ pub fn plans_in(
         print_difference(rt, kept, number, cells)?;
         return Ok(false);
     }
-    if !all_zero(work) {
-        return Ok(false);
-    }
-    if number != 100 {
-        return Ok(true);
-    }
-    is_checked(rt, kept, sheet, cells, 100)
+    let is_left_zero = work.iter().all(|word| *word == 0);
+    Ok(is_left_zero && (number != 100 || is_checked(rt, kept, sheet, cells, 100)?))
 }
 
-// The same in the words of form 3.
-fn plans_festival(
+// The same in so many words, which are not zero before.
+fn plans_with<const WORDS: usize>(
     rt: &impl Print,
     kept: &mut [usize],
     sheet: &[u8],
     callers: &[u8],
     cells: &mut [u32],
-) -> io::Result<bool> {
-    let mut work = [7u64; 32768];
+) -> io::Result<bool>
+    requires { WORDS ≤ 32768 }
+{
+    let mut work = [7u64; WORDS];
     plans_in(rt, kept, sheet, callers, cells, &mut work)
 }
 
-// The same in the words of forms 1 and 2.
-fn plans_hall(
-    rt: &impl Print,
-    kept: &mut [usize],
-    sheet: &[u8],
-    callers: &[u8],
-    cells: &mut [u32],
-) -> io::Result<bool> {
-    let mut work = [7u64; 8192];
-    plans_in(rt, kept, sheet, callers, cells, &mut work)
-}
-
-// The same in cells of its own and in the words of the form, which are not zero before.
+// The same in cells of its own and in the words of the form.
 pub fn plans(rt: &impl Print, kept: &mut [usize], sheet: &[u8], callers: &[u8]) -> io::Result<bool>
     ensures { length kept.new ≡ length kept.old }
 {
     let mut cells = [7u32; 136];
-    if get_byte(sheet, 0) == 3 {
-        return plans_festival(rt, kept, sheet, callers, &mut cells);
+    if sheet.first() == Some(&3) {
+        plans_with::<32768>(rt, kept, sheet, callers, &mut cells)
+    } else {
+        plans_with::<8192>(rt, kept, sheet, callers, &mut cells)
     }
-    plans_hall(rt, kept, sheet, callers, &mut cells)
 }

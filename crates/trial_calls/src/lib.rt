@@ -3,7 +3,6 @@
 #![tactic(auto)]
 
 mod calls;
-mod report;
 mod trees;
 
 pub use calls::{ACCEPTED, ANY, checks, plans, plans_in, want};

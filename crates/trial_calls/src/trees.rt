@@ -2,12 +2,9 @@
 ghost use Rattle.std.specs.Prelude.{◌≡◌, ◌<◌, length};
 
 use crate::calls::{plans, want};
-use crate::report::line;
 use std::io;
 use trial_parts::kept::{CHOICE, FESTIVALS, FILTER, NODE_SUMS, NODES, SIZES};
-use trial_parts::{
-    copy_bytes, either, first_bytes, get, get_byte, less, more, plus, put, put_byte, times,
-};
+use trial_parts::{copy_cells, first_bytes, get, more, put, times};
 
 // A limit that no tree here reaches.
 pub const MOST: usize = 1000000000;
@@ -24,24 +21,25 @@ fn meets_limits(
     if nodes == 0 {
         return Ok(true);
     }
-    want(kept, nodes, number, nodes);
+    want(kept, nodes, number, Some(nodes));
     if !plans(rt, kept, sheet, callers)? {
         return Ok(false);
     }
     if nodes == 1 {
         return Ok(true);
     }
-    let under = less(nodes, 1);
-    want(kept, under, 102, under);
+    let under = nodes - 1;
+    want(kept, under, 102, Some(under));
     plans(rt, kept, sheet, callers)
 }
 
 // Keeps the size of the tree under the filter number, and adds it to the sum.
 fn keep_size(kept: &mut [usize], filter: usize, nodes: usize) {
-    let at = plus(plus(NODE_SUMS, times(8, get(kept, CHOICE))), filter);
-    let sum = get(kept, at);
-    put(kept, plus(SIZES, filter), nodes);
-    put(kept, at, plus(sum, nodes));
+    let first = NODE_SUMS.wrapping_add(times(8, get(kept, CHOICE)));
+    let at = first.wrapping_add(filter);
+    let sum = get(kept, at).wrapping_add(nodes);
+    put(kept, SIZES.wrapping_add(filter), nodes);
+    put(kept, at, sum);
 }
 
 // A sheet of form 2 gives the same answer, plan and nodes with form 3 in its header, and a limit as large as the tree.
@@ -54,13 +52,14 @@ fn agrees_as_festival(
     nodes: usize,
 ) -> io::Result<bool> {
     let mut other = [0u8; 1200];
-    if get_byte(sheet, 0) != 2 {
+    if sheet.first() != Some(&2) {
         return Ok(true);
     }
-    copy_bytes(sheet, &mut other);
-    put_byte(&mut other, 0, 3);
+    copy_cells(sheet, &mut other);
+    other[0] = 3;
     more(kept, FESTIVALS);
-    want(kept, either(nodes == 0, MOST, nodes), number, nodes);
+    let limit = if nodes == 0 { MOST } else { nodes };
+    want(kept, limit, number, Some(nodes));
     plans(rt, kept, first_bytes(&other, sheet.len()), callers)
 }
 
@@ -72,7 +71,7 @@ fn under_filter(
     callers: &[u8],
     filter: usize,
     number: usize,
-    known: usize,
+    known: Option<usize>,
 ) -> io::Result<bool> {
     put(kept, FILTER, filter);
     want(kept, MOST, number, known);
@@ -81,10 +80,10 @@ fn under_filter(
     }
     let nodes = get(kept, NODES);
     keep_size(kept, filter, nodes);
-    if !agrees_as_festival(rt, kept, sheet, callers, number, nodes)? {
-        return Ok(false);
-    }
-    meets_limits(rt, kept, sheet, callers, number, nodes)
+    Ok(
+        agrees_as_festival(rt, kept, sheet, callers, number, nodes)?
+            && meets_limits(rt, kept, sheet, callers, number, nodes)?,
+    )
 }
 
 fn each_filter(
@@ -93,14 +92,12 @@ fn each_filter(
     sheet: &[u8],
     callers: &[u8],
     number: usize,
-    known: usize,
+    known: Option<usize>,
 ) -> io::Result<bool> {
-    let mut filter = 0;
-    while filter < 8 {
+    for filter in 0..8 {
         if !under_filter(rt, kept, sheet, callers, filter, number, known)? {
             return Ok(false);
         }
-        filter += 1;
     }
     Ok(true)
 }
@@ -109,39 +106,28 @@ fn each_filter(
 fn is_no_larger(kept: &[usize], filter: usize, w: usize) -> bool
     requires { 0 < w }
 {
-    if filter / w % 2 == 0 {
-        return true;
-    }
-    get(kept, plus(SIZES, filter)) <= get(kept, plus(SIZES, less(filter, w)))
+    let size = |filter: usize| get(kept, SIZES.wrapping_add(filter));
+    filter / w % 2 == 0 || size(filter) <= size(filter.saturating_sub(w))
 }
 
 // Whether no tree grows as a filter is added.
 fn sizes_fall(kept: &[usize]) -> bool {
-    let mut filter = 0;
-    while filter < 8 {
-        if !is_no_larger(kept, filter, 1) {
-            return false;
-        }
-        if !is_no_larger(kept, filter, 2) {
-            return false;
-        }
-        if !is_no_larger(kept, filter, 4) {
-            return false;
-        }
-        filter += 1;
-    }
-    true
+    (0..8).all(|filter| {
+        is_no_larger(kept, filter, 1)
+            && is_no_larger(kept, filter, 2)
+            && is_no_larger(kept, filter, 4)
+    })
 }
 
-// All filter numbers: the number wanted, and the nodes that are known of every tree, or `ANY`. No tree grows as a
-// filter is added.
+// All filter numbers: the number wanted, and the nodes of every tree, if they are known. No tree grows as a filter is
+// added.
 pub fn under_filters(
     rt: &impl Print,
     kept: &mut [usize],
     sheet: &[u8],
     callers: &[u8],
     number: usize,
-    known: usize,
+    known: Option<usize>,
 ) -> io::Result<bool>
     ensures { length kept.new ≡ length kept.old }
 {
@@ -151,12 +137,9 @@ pub fn under_filters(
     if sizes_fall(kept) {
         return Ok(true);
     }
-    line(
-        rt,
-        b"difference: nodes rise as filters are added under choice",
-        get(kept, CHOICE),
-        0,
-        0,
+    println!(rt;
+        "difference: nodes rise as filters are added under choice {} 0 0",
+        get(kept, CHOICE)
     )?;
     Ok(false)
 }

@@ -6,51 +6,43 @@ use input::read_full;
 use std::io;
 use trial_counts_beside::{PLANS_SUM, small_jobs};
 use trial_counts_calls::{AGREED, DIFFERED, LEAST, WHERE};
-use trial_counts_rows::{item, number, row_on_sheet, text};
+use trial_counts_rows::row_on_sheet;
 use trial_parts::kept::{AIRED, AT, FESTIVALS, LIST, LISTED, NODE_SUMS, ROOM, WITH};
 use trial_parts::{
-    EQUALS, first_bytes, get, line_end, next, next_run, plus, put, read, reads_job, times,
+    EQUALS, first_bytes, get, line_end, next, next_run, put, read, reads_job, times,
 };
-
-// The words that begin the other rows without a job, by their first bytes.
-const LISTS: usize = 108;
-
-const RANDOM: usize = 114;
 
 // Numbers kept from `from` on.
 fn print_run(rt: &impl Print, kept: &[usize], from: usize, m: usize) -> io::Result<()> {
-    let mut i = 0;
-    while i < m {
-        number(rt, get(kept, plus(from, i)) as u64)?;
-        i += 1;
+    for i in 0..m {
+        print!(rt; " {}", get(kept, from.wrapping_add(i)))?;
     }
-    text(rt, b"\n")
+    println!(rt; "")
 }
 
 fn print_nodes(rt: &impl Print, kept: &[usize], choice: usize) -> io::Result<()> {
-    item(rt, b"nodes under filter numbers 0 to 7, choice", choice)?;
-    text(rt, b":")?;
-    print_run(rt, kept, plus(NODE_SUMS, times(8, choice)), 8)
+    print!(rt; "nodes under filter numbers 0 to 7, choice {choice}:")?;
+    print_run(rt, kept, NODE_SUMS.wrapping_add(times(8, choice)), 8)
 }
 
 fn print_jobs(rt: &impl Print, job: &[usize], m: usize) -> io::Result<()> {
-    item(rt, b"small jobs:", m)?;
-    item(rt, b"; with a plan:", get(job, WITH))?;
-    item(rt, b"; with channels on air:", get(job, AIRED))?;
-    item(rt, b"; plans:", get(job, PLANS_SUM))?;
-    item(rt, b"; calls again with form 3:", get(job, FESTIVALS))?;
-    text(rt, b"\n")?;
-    print_nodes(rt, job, 0)?;
-    print_nodes(rt, job, 1)?;
-    print_nodes(rt, job, 2)
+    println!(rt;
+        "small jobs: {m}; with a plan: {}; with channels on air: {}; plans: {}; calls again with form 3: {}",
+        get(job, WITH),
+        get(job, AIRED),
+        get(job, PLANS_SUM),
+        get(job, FESTIVALS)
+    )?;
+    for choice in 0..3 {
+        print_nodes(rt, job, choice)?;
+    }
+    Ok(())
 }
 
 // The calls counted, and where the first differed.
 fn keep_calls(kept: &mut [usize], job: &[usize]) {
-    let mut i = AGREED;
-    while i < LEAST {
-        put(kept, i, get(job, i));
-        i += 1;
+    for what in AGREED..LEAST {
+        put(kept, what, get(job, what));
     }
 }
 
@@ -64,35 +56,26 @@ fn random_row(rt: &impl Print, kept: &mut [usize]) -> io::Result<()> {
     Ok(())
 }
 
-fn print_part(rt: &impl Print, words: &[u8], from: usize, end: usize) -> io::Result<()> {
-    if end < from {
-        return Ok(());
-    }
-    if words.len() < end {
-        return Ok(());
-    }
-    text(rt, &words[from..end])
-}
-
 // The setting of the first call that differed, and the counts lent to it.
 fn print_where(rt: &impl Print, kept: &[usize]) -> io::Result<()> {
     if get(kept, DIFFERED) == 0 {
         return Ok(());
     }
-    text(
-        rt,
-        b"first difference under filter number, choice, limit, with counts lent:",
-    )?;
+    print!(rt; "first difference under filter number, choice, limit, with counts lent:")?;
     print_run(rt, kept, WHERE, 4)
 }
 
 // A line that begins with `=`: its text, and the calls beside plans counted apart since the last such line.
 fn print_line(rt: &impl Print, words: &[u8], kept: &mut [usize]) -> io::Result<()> {
     let from = next(kept);
-    print_part(rt, words, from, line_end(words, from))?;
-    item(rt, b"; calls that agreed:", get(kept, AGREED))?;
-    item(rt, b", that differed:", get(kept, DIFFERED))?;
-    text(rt, b"\n")?;
+    if let Some(text) = words.get(from..line_end(words, from)) {
+        rt.write_all(text)?;
+    }
+    println!(rt;
+        "; calls that agreed: {}, that differed: {}",
+        get(kept, AGREED),
+        get(kept, DIFFERED)
+    )?;
     print_where(rt, kept)?;
     put(kept, AGREED, 0);
     put(kept, DIFFERED, 0);
@@ -105,40 +88,38 @@ fn read_list(kept: &mut [usize]) {
     put(kept, LISTED, m);
 }
 
+// A row, by the first byte of its word.
 fn row(rt: &impl Print, kept: &mut [usize], word: usize) -> io::Result<()> {
     if reads_job(kept, word) {
         return Ok(());
     }
-    if word == LISTS {
-        read_list(kept);
-        return Ok(());
+    match u8::try_from(word) {
+        Ok(b'l') => {
+            read_list(kept);
+            Ok(())
+        }
+        Ok(b'r') => random_row(rt, kept),
+        _ => row_on_sheet(rt, kept, word),
     }
-    if word == RANDOM {
-        random_row(rt, kept)?;
-        return Ok(());
-    }
-    row_on_sheet(rt, kept, word)
 }
 
 // A row, or a line to print.
 fn row_or_line(rt: &impl Print, words: &[u8], kept: &mut [usize]) -> io::Result<()> {
     let word = next(kept);
     if word == EQUALS {
-        print_line(rt, words, kept)?;
-        return Ok(());
+        print_line(rt, words, kept)
+    } else {
+        row(rt, kept, word)
     }
-    row(rt, kept, word)
 }
 
 // The rows of an input of m words and numbers.
 fn rows_of(rt: &impl Print, words: &[u8], kept: &mut [usize], m: usize) -> io::Result<()> {
-    let mut i = 0;
-    while i < m {
+    for _ in 0..m {
         if m <= get(kept, AT) {
             return Ok(());
         }
         row_or_line(rt, words, kept)?;
-        i += 1;
     }
     Ok(())
 }

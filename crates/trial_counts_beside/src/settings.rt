@@ -3,9 +3,7 @@ ghost use Rattle.std.specs.Prelude.{◌≡◌, length};
 
 use trial_counts_calls::{ANY, LEAST, MOST, ask_plan, counts_in};
 use trial_parts::kept::{CHOICE, FESTIVALS, FILTER, LIMIT, N, NODE_SUMS, NODES, NUMBER, WANTED};
-use trial_parts::{
-    copy_bytes, either, first_bytes, get, get_byte, less, more, plus, put, put_byte,
-};
+use trial_parts::{copy_cells, first_bytes, get, more, put};
 
 // Counts lent to some calls: more than n.
 const ROOMY: usize = 40;
@@ -40,8 +38,10 @@ fn meets_limits(
     }
     want(kept, nodes, number, nodes);
     counts_in(kept, sheet, callers, left, ROOMY);
-    is_stopped(kept, sheet, callers, left, less(nodes, 1));
-    is_stopped(kept, sheet, callers, left, either(nodes < 3, 0, 1));
+    is_stopped(kept, sheet, callers, left, nodes - 1);
+    if 3 <= nodes {
+        is_stopped(kept, sheet, callers, left, 1);
+    }
 }
 
 // A refusal: with n counts or so many fewer, and with none.
@@ -55,15 +55,15 @@ fn refuses(
 ) {
     let n = get(kept, N);
     want(kept, MOST, number, 0);
-    counts_in(kept, sheet, callers, left, less(n, fewer));
+    counts_in(kept, sheet, callers, left, n.saturating_sub(fewer));
     counts_in(kept, sheet, callers, left, 0);
 }
 
 // Adds the nodes to those of the setting.
 fn add_nodes(kept: &mut [usize], setting: usize, nodes: usize) {
-    let at = plus(NODE_SUMS, setting);
-    let sum = get(kept, at);
-    put(kept, at, plus(sum, nodes));
+    let at = NODE_SUMS.wrapping_add(setting);
+    let sum = get(kept, at).wrapping_add(nodes);
+    put(kept, at, sum);
 }
 
 // A sheet of form 2 gives the same answer, nodes, plan and counts with form 3 in its header.
@@ -76,13 +76,14 @@ fn agrees_as_festival(
     nodes: usize,
 ) {
     let mut other = [0u8; 1200];
-    if get_byte(sheet, 0) != 2 {
+    if sheet.first() != Some(&2) {
         return;
     }
-    copy_bytes(sheet, &mut other);
-    put_byte(&mut other, 0, 3);
+    copy_cells(sheet, &mut other);
+    other[0] = 3;
     more(kept, FESTIVALS);
-    want(kept, either(nodes == 0, MOST, nodes), number, nodes);
+    let limit = if nodes == 0 { MOST } else { nodes };
+    want(kept, limit, number, nodes);
     let n = get(kept, N);
     let form_three = first_bytes(&other, sheet.len());
     counts_in(kept, form_three, callers, left, n);
@@ -124,9 +125,12 @@ fn accepts(
 // under choice 0.
 fn known_nodes(kept: &[usize], setting: usize, number: usize, apart: usize) -> usize {
     if setting == 0 {
-        return apart;
+        apart
+    } else if number == 101 {
+        get(kept, LEAST)
+    } else {
+        ANY
     }
-    either(number == 101, get(kept, LEAST), ANY)
 }
 
 // One setting: filter number and choice. The answer and the plan are those of planning; the nodes are no fewer.
@@ -156,9 +160,7 @@ fn under_setting(
 pub fn beside(kept: &mut [usize], sheet: &[u8], callers: &[u8], left: &[usize], apart: usize)
     ensures { length kept.new ≡ length kept.old }
 {
-    let mut setting = 0;
-    while setting < 24 {
+    for setting in 0..24 {
         under_setting(kept, sheet, callers, left, setting, apart);
-        setting += 1;
     }
 }

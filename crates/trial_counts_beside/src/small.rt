@@ -5,16 +5,10 @@ use crate::settings::beside;
 use trial_counts_apart::{LEFT, PLANS, count_apart, nodes_apart};
 use trial_job::{fill, make_channels, make_job, make_list};
 use trial_parts::kept::{AIRED, CELLS, ON_AIR, SEED, WITH};
-use trial_parts::{either, encode, first_bytes, get, plus, put};
+use trial_parts::{encode, first_bytes, get, more, put};
 
 // The plans of all small jobs.
 pub const PLANS_SUM: usize = 48;
-
-// So many more at place i.
-fn add(job: &mut [usize], i: usize, m: usize) {
-    let sum = get(job, i);
-    put(job, i, plus(sum, m));
-}
 
 // A job and its graph beside plans counted apart. Gives how many there are.
 pub fn beside_apart(job: &mut [usize], graph: &[usize], sheet: &[u8], callers: &[u8]) -> usize
@@ -32,8 +26,11 @@ fn listed(job: &mut [usize], graph: &[usize], sheet: &[u8]) {
     let mut list = [0u8; 40];
     let m = make_list(job, graph, &mut list);
     let plans = beside_apart(job, graph, sheet, first_bytes(&list, m));
-    add(job, PLANS_SUM, plans);
-    add(job, WITH, either(plans == 0, 0, 1));
+    let sum = get(job, PLANS_SUM).wrapping_add(plans);
+    put(job, PLANS_SUM, sum);
+    if plans != 0 {
+        more(job, WITH);
+    }
 }
 
 // The next job of the sequence.
@@ -44,7 +41,9 @@ fn small_job(job: &mut [usize]) {
     make_job(job);
     fill(job, &mut graph);
     let length = encode(job, &mut sheet);
-    add(job, AIRED, either(get(job, ON_AIR) == 0, 0, 1));
+    if get(job, ON_AIR) != 0 {
+        more(job, AIRED);
+    }
     listed(job, &graph, first_bytes(&sheet, length));
 }
 
@@ -53,9 +52,7 @@ pub fn small_jobs(job: &mut [usize], m: usize)
     ensures { length job.new ≡ length job.old }
 {
     put(job, SEED, 1);
-    let mut i = 0;
-    while i < m {
+    for _ in 0..m {
         small_job(job);
-        i += 1;
     }
 }

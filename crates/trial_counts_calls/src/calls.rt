@@ -1,13 +1,14 @@
 // The calls, with the setting, the job and what is wanted in the table that the test program keeps.
-ghost use Rattle.std.specs.Prelude.{◌≡◌, length};
+ghost use Rattle.std.specs.Prelude.{◌≡◌, ◌≤◌, length};
 
-use crate::held::{all_zero, holds_counts, holds_plan, sums_to, want_cells};
+use crate::held::{are_zero, holds_counts, holds_plan, sums_to, want_cells};
+use planner::{Planned, answer_number, node_count};
 use setting::Options;
 use trial_counts_apart::PLANS;
 use trial_parts::kept::{CHANNELS, CHOICE, FILTER, LIMIT, N, NODES, NUMBER, ON_AIR, WANTED};
-use trial_parts::{first_bytes, get, get_byte, more, narrow, plus, put, put_bytes};
+use trial_parts::{first_bytes, get, more, narrow, put, put_bytes};
 
-// Any number of nodes; and a limit that no tree here reaches.
+// Any number of nodes, a number as all that the table keeps; and a limit that no tree here reaches.
 pub const ANY: usize = 4294967296;
 
 pub const MOST: usize = 1000000000;
@@ -32,10 +33,9 @@ fn setting_of(kept: &[usize]) -> Options {
 }
 
 // The number of an answer; its nodes are kept.
-fn told(kept: &mut [usize], p: planner::Planned) -> usize {
-    put(kept, NODES, p.nodes as usize);
-    let verdict = p.verdict;
-    planner::verdict_number(verdict) as usize
+fn told(kept: &mut [usize], planned: Planned) -> usize {
+    put(kept, NODES, node_count(planned) as usize);
+    answer_number(planned) as usize
 }
 
 // The number of a planning call's answer in these words. Its nodes are kept, and its cells as the plan wanted.
@@ -44,31 +44,28 @@ fn ask_plan_in(kept: &mut [usize], sheet: &[u8], callers: &[u8], work: &mut [u64
     let mut channels = [0u8; 60];
     put_bytes(kept, CHANNELS, &mut channels);
     let on_air = first_bytes(&channels, get(kept, ON_AIR));
-    let p = planner::plan(sheet, on_air, setting_of(kept), callers, &mut cells, work);
+    let planned = planner::plan(sheet, on_air, setting_of(kept), callers, &mut cells, work);
     want_cells(kept, &cells);
-    told(kept, p)
+    told(kept, planned)
 }
 
-// The same in the words of form 3.
-fn ask_plan_festival(kept: &mut [usize], sheet: &[u8], callers: &[u8]) -> usize {
-    let mut work = [7u64; 32768];
+// The same in so many words.
+fn ask_plan_with<const WORDS: usize>(kept: &mut [usize], sheet: &[u8], callers: &[u8]) -> usize
+    requires { WORDS ≤ 32768 }
+{
+    let mut work = [7u64; WORDS];
     ask_plan_in(kept, sheet, callers, &mut work)
 }
 
-// The same in the words of forms 1 and 2.
-fn ask_plan_hall(kept: &mut [usize], sheet: &[u8], callers: &[u8]) -> usize {
-    let mut work = [7u64; 8192];
-    ask_plan_in(kept, sheet, callers, &mut work)
-}
-
-// The same by the sheet's form.
+// The same in the words of the sheet's form.
 pub fn ask_plan(kept: &mut [usize], sheet: &[u8], callers: &[u8]) -> usize
     ensures { length kept.new ≡ length kept.old }
 {
-    if get_byte(sheet, 0) == 3 {
-        return ask_plan_festival(kept, sheet, callers);
+    if sheet.first() == Some(&3) {
+        ask_plan_with::<32768>(kept, sheet, callers)
+    } else {
+        ask_plan_with::<8192>(kept, sheet, callers)
     }
-    ask_plan_hall(kept, sheet, callers)
 }
 
 // The number of a counting call's answer; its nodes are kept.
@@ -85,7 +82,7 @@ pub fn ask_counts(
     let mut channels = [0u8; 60];
     put_bytes(kept, CHANNELS, &mut channels);
     let on_air = first_bytes(&channels, get(kept, ON_AIR));
-    let p = counting::count(
+    let planned = counting::count(
         sheet,
         on_air,
         setting_of(kept),
@@ -94,31 +91,29 @@ pub fn ask_counts(
         counts,
         work,
     );
-    told(kept, p)
+    told(kept, planned)
 }
 
 fn are_wanted(kept: &[usize], number: usize) -> bool {
-    if get(kept, NUMBER) != number {
-        return false;
-    }
-    if get(kept, WANTED) == ANY {
-        return get(kept, LEAST) <= get(kept, NODES);
-    }
-    get(kept, WANTED) == get(kept, NODES)
+    let nodes = get(kept, NODES);
+    let wanted = get(kept, WANTED);
+    let has_nodes = if wanted == ANY {
+        get(kept, LEAST) <= nodes
+    } else {
+        wanted == nodes
+    };
+    get(kept, NUMBER) == number && has_nodes
 }
 
 // Whether the counts are the plans left where a plan is found or there is none, and zeros else.
 fn are_left(kept: &[usize], counts: &[u64], left: &[usize], number: usize) -> bool {
-    if number == 100 {
-        if !sums_to(kept, counts, get(left, PLANS)) {
-            return false;
+    match number {
+        100 => {
+            sums_to(kept, counts, get(left, PLANS)) && holds_counts(counts, left, get(kept, N))
         }
-        return holds_counts(counts, left, get(kept, N));
+        101 => holds_counts(counts, left, get(kept, N)),
+        _ => are_zero(counts),
     }
-    if number == 101 {
-        return holds_counts(counts, left, get(kept, N));
-    }
-    all_zero(counts)
 }
 
 // Whether a call in these counts gives the number and the nodes wanted, the plan where it is found, zeros in all other
@@ -133,43 +128,27 @@ fn gives_in(
 ) -> bool {
     let mut cells = [7u32; 136];
     let number = ask_counts(kept, sheet, callers, &mut cells, counts, work);
-    if !are_wanted(kept, number) {
-        return false;
-    }
-    if !holds_plan(kept, &cells, number == 100) {
-        return false;
-    }
-    if !all_zero(work) {
-        return false;
-    }
-    are_left(kept, counts, left, number)
+    are_wanted(kept, number)
+        && holds_plan(kept, &cells, number == 100)
+        && are_zero(work)
+        && are_left(kept, counts, left, number)
 }
 
-// The same in the words of form 3.
-fn gives_festival(
+// The same in so many words, which are not zero before.
+fn gives_with<const WORDS: usize>(
     kept: &mut [usize],
     sheet: &[u8],
     callers: &[u8],
     counts: &mut [u64],
     left: &[usize],
-) -> bool {
-    let mut work = [7u64; 32768];
+) -> bool
+    requires { WORDS ≤ 32768 }
+{
+    let mut work = [7u64; WORDS];
     gives_in(kept, sheet, callers, counts, left, &mut work)
 }
 
-// The same in the words of forms 1 and 2.
-fn gives_hall(
-    kept: &mut [usize],
-    sheet: &[u8],
-    callers: &[u8],
-    counts: &mut [u64],
-    left: &[usize],
-) -> bool {
-    let mut work = [7u64; 8192];
-    gives_in(kept, sheet, callers, counts, left, &mut work)
-}
-
-// The same by the sheet's form.
+// The same in the words of the sheet's form.
 fn gives(
     kept: &mut [usize],
     sheet: &[u8],
@@ -177,10 +156,11 @@ fn gives(
     counts: &mut [u64],
     left: &[usize],
 ) -> bool {
-    if get_byte(sheet, 0) == 3 {
-        return gives_festival(kept, sheet, callers, counts, left);
+    if sheet.first() == Some(&3) {
+        gives_with::<32768>(kept, sheet, callers, counts, left)
+    } else {
+        gives_with::<8192>(kept, sheet, callers, counts, left)
     }
-    gives_hall(kept, sheet, callers, counts, left)
 }
 
 // Keeps where the first call differed.
@@ -189,9 +169,9 @@ fn keep_where(kept: &mut [usize], room: usize) {
         return;
     }
     put(kept, WHERE, get(kept, FILTER));
-    put(kept, plus(WHERE, 1), get(kept, CHOICE));
-    put(kept, plus(WHERE, 2), get(kept, LIMIT));
-    put(kept, plus(WHERE, 3), room);
+    put(kept, WHERE + 1, get(kept, CHOICE));
+    put(kept, WHERE + 2, get(kept, LIMIT));
+    put(kept, WHERE + 3, room);
 }
 
 // A call in so many counts, which are not zero before: it is counted as one that agreed or one that differed.
@@ -202,10 +182,10 @@ pub fn counts_in(kept: &mut [usize], sheet: &[u8], callers: &[u8], left: &[usize
     if 40 < room {
         return;
     }
-    if gives(kept, sheet, callers, &mut counts[0..room], left) {
+    if gives(kept, sheet, callers, &mut counts[..room], left) {
         more(kept, AGREED);
-        return;
+    } else {
+        keep_where(kept, room);
+        more(kept, DIFFERED);
     }
-    keep_where(kept, room);
-    more(kept, DIFFERED);
 }

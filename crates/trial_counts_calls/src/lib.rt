@@ -5,3 +5,4 @@ mod calls;
 mod held;
 
 pub use calls::{AGREED, ANY, DIFFERED, LEAST, MOST, WHERE, ask_counts, ask_plan, counts_in};
+pub use held::are_zero;

@@ -1,7 +1,6 @@
 // The rows on a job's sheet.
 ghost use Rattle.std.specs.Prelude.{◌≡◌, length};
 
-use crate::report::{item, number, text};
 use std::io;
 use trial_counts_beside::beside_apart;
 use trial_counts_calls::{MOST, ask_counts};
@@ -10,23 +9,14 @@ use trial_job::fill;
 use trial_parts::kept::{CELLS, CHOICE, FILTER, LIMIT, LIST, LISTED, N, NODES};
 use trial_parts::{encode, first_bytes, get, next, put, put_bytes};
 
-// The words that begin a row on a sheet, by their first bytes.
-const BESIDE: usize = 98;
-
-const CAUSES: usize = 99;
-
-const PLANS: usize = 112;
-
 fn print_counts(rt: &impl Print, counts: &[u64], n: usize) -> io::Result<()> {
     if counts.len() < n {
         return Ok(());
     }
-    let mut v = 0;
-    while v < n {
-        number(rt, counts[v])?;
-        v += 1;
+    for count in &counts[..n] {
+        print!(rt; " {count}")?;
     }
-    text(rt, b"\n")
+    println!(rt; "")
 }
 
 // One filter number of a row `plans`.
@@ -43,10 +33,10 @@ fn plans_under(
     put(kept, FILTER, filter);
     put(kept, LIMIT, MOST);
     let told = ask_counts(kept, sheet, list, &mut cells, &mut counts, &mut work);
-    item(rt, b"filter number", filter)?;
-    item(rt, b": answer", told)?;
-    item(rt, b", nodes", get(kept, NODES))?;
-    text(rt, b", plans left")?;
+    print!(rt;
+        "filter number {filter}: answer {told}, nodes {}, plans left",
+        get(kept, NODES)
+    )?;
     print_counts(rt, &counts, get(kept, N))
 }
 
@@ -54,23 +44,19 @@ fn plans_under(
 fn plans_row(rt: &impl Print, kept: &mut [usize], sheet: &[u8], list: &[u8]) -> io::Result<()> {
     let choice = next(kept);
     put(kept, CHOICE, choice);
-    let mut filter = 0;
-    while filter < 8 {
+    for filter in 0..8 {
         plans_under(rt, kept, sheet, list, filter)?;
-        filter += 1;
     }
     Ok(())
 }
 
 // `causes`: every fault at once, and then mended one after another from the first tested on.
 fn causes_row(rt: &impl Print, kept: &mut [usize], sheet: &[u8], list: &[u8]) -> io::Result<()> {
-    text(rt, b"causes, each with all later ones:")?;
-    let mut mended = 0;
-    while mended < 8 {
-        number(rt, with_faults(kept, sheet, list, mended) as u64)?;
-        mended += 1;
+    print!(rt; "causes, each with all later ones:")?;
+    for mended in 0..8 {
+        print!(rt; " {}", with_faults(kept, sheet, list, mended))?;
     }
-    text(rt, b"\n")
+    println!(rt; "")
 }
 
 // `beside`: the sheet and the list beside plans counted apart, and beside planning.
@@ -80,6 +66,7 @@ fn beside_row(kept: &mut [usize], sheet: &[u8], list: &[u8]) {
     beside_apart(kept, &graph, sheet, list);
 }
 
+// A row with the sheet and the list, by the first byte of its word.
 fn called_row(
     rt: &impl Print,
     kept: &mut [usize],
@@ -87,20 +74,15 @@ fn called_row(
     sheet: &[u8],
     list: &[u8],
 ) -> io::Result<()> {
-    if word == BESIDE {
-        beside_row(kept, sheet, list);
-        return Ok(());
+    match u8::try_from(word) {
+        Ok(b'b') => {
+            beside_row(kept, sheet, list);
+            Ok(())
+        }
+        Ok(b'c') => causes_row(rt, kept, sheet, list),
+        Ok(b'p') => plans_row(rt, kept, sheet, list),
+        _ => println!(rt; "no row begins so: {word}"),
     }
-    if word == CAUSES {
-        causes_row(rt, kept, sheet, list)?;
-        return Ok(());
-    }
-    if word == PLANS {
-        plans_row(rt, kept, sheet, list)?;
-        return Ok(());
-    }
-    item(rt, b"no row begins so:", word)?;
-    text(rt, b"\n")
 }
 
 // A row on the job's sheet, with the caller's list.

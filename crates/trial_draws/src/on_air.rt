@@ -3,30 +3,27 @@ ghost use Rattle.std.specs.Prelude.{◌≡◌, length};
 
 use crate::sequence::draw;
 use trial_tables::kept::{BELOW, CHANNELS, ON_AIR, STEP};
-use trial_tables::{get, less, plus, put};
+use trial_tables::{get, put};
 
 // Puts a channel on air with a chance of `chance` in eight.
 fn make_channel(job: &mut [usize], c: usize, chance: usize) {
-    if chance <= draw(job, 8) {
-        return;
+    if draw(job, 8) < chance {
+        let m = get(job, ON_AIR);
+        put(job, CHANNELS.wrapping_add(m), c);
+        put(job, ON_AIR, m.wrapping_add(1));
     }
-    let m = get(job, ON_AIR);
-    put(job, plus(CHANNELS, m), c);
-    put(job, ON_AIR, plus(m, 1));
 }
 
 fn put_on_air(job: &mut [usize], chance: usize) {
-    let mut c = 21;
-    while c < 49 {
+    for c in 21..49 {
         make_channel(job, c, chance);
-        c += 1;
     }
 }
 
 // The frequencies of the next job: so many steps above `below`.
 fn space(job: &mut [usize], below: usize, step: usize) {
     put(job, BELOW, below);
-    put(job, STEP, less(step, 1));
+    put(job, STEP, step.saturating_sub(1));
 }
 
 // The channels of the next job: about half the jobs have some. Then a step is half a channel, so that a frequency is
@@ -40,7 +37,7 @@ pub fn make_channels(job: &mut [usize])
         return;
     }
     let lower = draw(job, 2);
-    space(job, less(466000, lower), 4000);
-    let chance = plus(1, draw(job, 4));
+    space(job, 466000 - lower, 4000);
+    let chance = draw(job, 4) + 1;
     put_on_air(job, chance);
 }

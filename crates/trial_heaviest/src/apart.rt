@@ -2,40 +2,47 @@
 ghost use Rattle.std.specs.Prelude.{◌≡◌, length};
 
 use trial_parts::kept::{FESTIVAL, K, N, ON_AIR, Q, T, WIDE};
-use trial_parts::{either, less, plus, put, put_link, put_own, put_pair, put_rule, times};
+use trial_parts::{put, put_link, put_own, put_pair, put_rule, times};
 
 fn put_links(job: &mut [usize], k: usize, m: usize) {
-    let mut l = 0;
-    while l < k {
+    for l in 0..k {
         put_link(job, l, times(l, m), m);
-        l += 1;
     }
 }
 
 // Each place with the first place of the last link, as pairs `from` on.
 fn put_firsts(job: &mut [usize], from: usize, m: usize) {
-    let mut i = 0;
-    while i < m {
-        put_pair(job, plus(from, i), i, 0);
-        i += 1;
+    for i in 0..m {
+        put_pair(job, from.wrapping_add(i), i, 0);
     }
 }
 
 // The rule of link l: the last places go together; and, unless it is the link before the last, each place goes with the
 // first place of the last link.
 fn put_own_rule(job: &mut [usize], k: usize, m: usize, l: usize) {
-    let from = times(l, plus(m, 1));
-    let firsts = either(plus(l, 2) == k, 0, m);
-    put_rule(job, l, l, less(k, 1), 3, plus(firsts, 1), from);
+    let from = times(l, m.wrapping_add(1));
+    let firsts = if l.wrapping_add(2) == k { 0 } else { m };
+    put_rule(
+        job,
+        l,
+        l,
+        k.saturating_sub(1),
+        3,
+        firsts.wrapping_add(1),
+        from,
+    );
     put_firsts(job, from, firsts);
-    put_pair(job, plus(from, firsts), less(m, 1), less(m, 1));
+    put_pair(
+        job,
+        from.wrapping_add(firsts),
+        m.saturating_sub(1),
+        m.saturating_sub(1),
+    );
 }
 
 fn put_rules(job: &mut [usize], k: usize, m: usize, q: usize) {
-    let mut l = 0;
-    while l < q {
+    for l in 0..q {
         put_own_rule(job, k, m, l);
-        l += 1;
     }
 }
 
@@ -61,8 +68,12 @@ fn put_plain(job: &mut [usize])
 pub fn make_heaviest(job: &mut [usize], k: usize, m: usize)
     ensures { length job.new ≡ length job.old }
 {
-    let q = either(m < 2, 0, less(k, 1));
-    let t = either(q == 0, 0, plus(times(less(k, 2), plus(m, 1)), 1));
+    let q = if m < 2 { 0 } else { k.saturating_sub(1) };
+    let t = if q == 0 {
+        0
+    } else {
+        times(k.saturating_sub(2), m.wrapping_add(1)).wrapping_add(1)
+    };
     put_plain(job);
     put_counts(job, k, times(k, m), q, t);
     put_links(job, k, m);

@@ -2,7 +2,7 @@
 ghost use Rattle.std.specs.Prelude.{◌≡◌, length};
 
 use crate::apart::make_heaviest;
-use heaviest::{HeaviestSheet, heaviest, heaviest_number};
+use heaviest::{HeaviestRefusal, heaviest, heaviest_number};
 use std::io;
 use trial_parts::{encode, first_bytes, more, narrow, next};
 use trial_texts_calls::is_same;
@@ -11,24 +11,34 @@ use trial_texts_parts::{fill_bytes, first_difference};
 // Calls since the last line printed.
 pub const HEAVIEST: usize = 16;
 
-fn call_over(kept: &mut [usize], k: usize, m: usize, buffer: &mut [u8]) -> HeaviestSheet {
+fn call_over(
+    kept: &mut [usize],
+    k: usize,
+    m: usize,
+    buffer: &mut [u8],
+) -> Result<usize, HeaviestRefusal> {
     more(kept, HEAVIEST);
     fill_bytes(buffer, 7);
     heaviest(narrow(k), narrow(m), buffer)
 }
 
-// Whether an answer says a number and a length.
-fn says(rt: &impl Print, h: HeaviestSheet, number: usize, length: usize) -> io::Result<bool> {
-    let answer = h.answer;
-    if !is_same(
-        rt,
-        b"number of the heaviest job",
-        heaviest_number(answer) as usize,
-        number,
-    )? {
-        return Ok(false);
-    }
-    is_same(rt, b"length of the heaviest job", h.length, length)
+// Whether an answer says a number and a length, none where it is refused.
+fn says(
+    rt: &impl Print,
+    answer: Result<usize, HeaviestRefusal>,
+    number: usize,
+    length: usize,
+) -> io::Result<bool> {
+    let got = heaviest_number(answer) as usize;
+    Ok(
+        is_same(rt, "number of the heaviest job", got, number)?
+            && is_same(
+                rt,
+                "length of the heaviest job",
+                answer.unwrap_or(0),
+                length,
+            )?,
+    )
 }
 
 // Whether the call says a number and writes the bytes wanted, with zeros after them.
@@ -41,15 +51,17 @@ fn gives(
     number: usize,
     wanted: &[u8],
 ) -> io::Result<bool> {
-    let h = call_over(kept, k, m, buffer);
-    if !says(rt, h, number, wanted.len())? {
-        return Ok(false);
-    }
-    is_same(
-        rt,
-        b"first byte of the heaviest job that is another",
-        first_difference(buffer, wanted),
-        buffer.len(),
+    let answer = call_over(kept, k, m, buffer);
+    let at = first_difference(buffer, wanted);
+    let end = buffer.len();
+    Ok(
+        says(rt, answer, number, wanted.len())?
+            && is_same(
+                rt,
+                "first byte of the heaviest job that is another",
+                at,
+                end,
+            )?,
     )
 }
 
@@ -67,7 +79,7 @@ fn gives_first(
     if buffer.len() < room {
         return Ok(false);
     }
-    gives(rt, kept, k, m, &mut buffer[0..room], number, wanted)
+    gives(rt, kept, k, m, &mut buffer[..room], number, wanted)
 }
 
 // The same in a buffer of 65,536 bytes, and in a longer one; and 18 in one that is a byte too short.
@@ -80,13 +92,11 @@ fn gives_all(
     wanted: &[u8],
 ) -> io::Result<bool> {
     let mut buffer = [0u8; 65600];
-    if !gives_first(rt, kept, k, m, &mut buffer, 65535, 18, b"")? {
-        return Ok(false);
-    }
-    if !gives_first(rt, kept, k, m, &mut buffer, 65536, number, wanted)? {
-        return Ok(false);
-    }
-    gives(rt, kept, k, m, &mut buffer, number, wanted)
+    Ok(
+        gives_first(rt, kept, k, m, &mut buffer, 65535, 18, b"")?
+            && gives_first(rt, kept, k, m, &mut buffer, 65536, number, wanted)?
+            && gives(rt, kept, k, m, &mut buffer, number, wanted)?,
+    )
 }
 
 // The call beside the sheet formed apart.
@@ -105,7 +115,8 @@ pub fn heaviest_row(rt: &impl Print, kept: &mut [usize]) -> io::Result<bool>
     let m = next(kept);
     let number = next(kept);
     if number == 0 {
-        return beside_apart(rt, kept, k, m);
+        beside_apart(rt, kept, k, m)
+    } else {
+        gives_all(rt, kept, k, m, number, b"")
     }
-    gives_all(rt, kept, k, m, number, b"")
 }

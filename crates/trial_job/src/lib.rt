@@ -7,8 +7,8 @@ mod brute;
 mod classes;
 mod lists;
 
-pub use adjacency::{ZERO, fill, spare};
-pub use brute::{codes, first_plan, pairs_kept, pick};
-pub use classes::{filled, placed, put_greedy, put_layers};
+pub use adjacency::{ZERO, fill, is_edge, layer, spare};
+pub use brute::{best_plan, codes, keeps_rules, pick};
+pub use classes::{fits_greedy, keeps_apart, none_empty, put_layers};
 pub use lists::make_list;
 pub use trial_draws::{make_channels, make_job};

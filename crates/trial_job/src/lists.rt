@@ -4,13 +4,13 @@ ghost use Rattle.std.specs.Prelude.{◌+◌, ◌≤◌, get_or};
 use crate::classes::{has_neighbour_in, put_layers};
 use trial_draws::draw;
 use trial_parts::kept::{K, N};
-use trial_parts::{get, less, plus, put_byte};
+use trial_parts::{get, put};
 
 // Moves a vertex to a class of the sequence that has none of its neighbours.
 fn move_vertex(graph: &[usize], n: usize, k: usize, list: &mut [u8], kept: &mut [usize], v: usize) {
     let class = draw(kept, k);
     if !has_neighbour_in(graph, n, list, v, class) {
-        put_byte(list, v, class);
+        put(list, v, class);
     }
 }
 
@@ -19,10 +19,8 @@ fn move_vertices(graph: &[usize], n: usize, k: usize, list: &mut [u8], kept: &mu
     if draw(kept, 4) == 0 {
         return;
     }
-    let mut v = 0;
-    while v < n {
+    for v in 0..n {
         move_vertex(graph, n, k, list, kept, v);
-        v += 1;
     }
 }
 
@@ -33,21 +31,20 @@ fn spoil_list(n: usize, k: usize, list: &mut [u8], kept: &mut [usize]) -> usize
 {
     let fault = draw(kept, 24);
     let v = draw(kept, n);
-    if fault == 0 {
-        put_byte(list, v, draw(kept, k));
-        return n;
+    match fault {
+        0 => {
+            let class = draw(kept, k);
+            put(list, v, class);
+            n
+        }
+        1 => {
+            put(list, v, k);
+            n
+        }
+        2 => n.wrapping_add(1),
+        3 => n.saturating_sub(1),
+        _ => n,
     }
-    if fault == 1 {
-        put_byte(list, v, k);
-        return n;
-    }
-    if fault == 2 {
-        return plus(n, 1);
-    }
-    if fault == 3 {
-        return less(n, 1);
-    }
-    n
 }
 
 // A class list for the caller, a partition mostly. Gives its length.

@@ -5,33 +5,29 @@
 ghost use Rattle.std.specs.Prelude.{◌≡◌, length};
 
 use trial_tables::kept::{FREQUENCIES, K, N, PLAN, Q, T, WIDTHS};
-use trial_tables::{either, first, get, khz, plus, put, put_link, put_pair, put_rule, rule_at};
+use trial_tables::{first, get, khz, put, put_link, put_pair, put_rule, rule_at};
 
 // Part i of a total in equal parts, the first ones one larger where it does not come out even.
 fn share(total: usize, parts: usize, i: usize) -> usize {
     if parts == 0 {
         return 0;
     }
-    plus(total / parts, either(i < total % parts, 1, 0))
+    (total / parts).wrapping_add(usize::from(i < total % parts))
 }
 
 fn put_frequencies(job: &mut [usize], start: usize, m: usize) {
-    let mut i = 0;
-    while i < m {
-        put(job, plus(FREQUENCIES, plus(start, i)), plus(i, 1));
-        i += 1;
+    for i in 0..m {
+        put(job, FREQUENCIES.wrapping_add(start.wrapping_add(i)), i + 1);
     }
 }
 
 fn put_links(job: &mut [usize], k: usize, n: usize) {
     let mut start = 0;
-    let mut l = 0;
-    while l < k {
+    for l in 0..k {
         let m = share(n, k, l);
         put_link(job, l, start, m);
         put_frequencies(job, start, m);
-        start = plus(start, m);
-        l += 1;
+        start = start.wrapping_add(m);
     }
 }
 
@@ -40,10 +36,8 @@ fn put_pairs(job: &mut [usize], from: usize, m: usize, width: usize) {
     if width == 0 {
         return;
     }
-    let mut p = 0;
-    while p < m {
-        put_pair(job, plus(from, p), p / width, p % width);
-        p += 1;
+    for p in 0..m {
+        put_pair(job, from.wrapping_add(p), p / width, p % width);
     }
 }
 
@@ -51,16 +45,17 @@ fn put_rules(job: &mut [usize], k: usize, q: usize, t: usize, width: usize) {
     let mut a = 0;
     let mut b = 1;
     let mut from = 0;
-    let mut j = 0;
-    while j < q {
+    for j in 0..q {
         let m = share(t, q, j);
         put_rule(job, j, a, b, 3, m, from);
         put_pairs(job, from, m, width);
-        from = plus(from, m);
-        let goes_on = plus(b, 1) < k;
-        b = either(goes_on, plus(b, 1), plus(a, 2));
-        a = either(goes_on, a, plus(a, 1));
-        j += 1;
+        from = from.wrapping_add(m);
+        let next = b.wrapping_add(1);
+        (a, b) = if next < k {
+            (a, next)
+        } else {
+            (a.wrapping_add(1), a.wrapping_add(2))
+        };
     }
 }
 
@@ -79,10 +74,8 @@ pub fn put_own(job: &mut [usize])
     ensures { length job.new ≡ length job.old }
 {
     let n = get(job, N);
-    let mut v = 0;
-    while v < n {
-        put(job, plus(FREQUENCIES, v), plus(v, 1));
-        v += 1;
+    for v in 0..n {
+        put(job, FREQUENCIES.wrapping_add(v), v + 1);
     }
 }
 
@@ -92,17 +85,15 @@ pub fn put_gaps(job: &mut [usize], spacing: usize)
 {
     let q = get(job, Q);
     put(job, T, 0);
-    let mut j = 0;
-    while j < q {
+    for j in 0..q {
         put_gap(job, rule_at(j), spacing);
-        j += 1;
     }
 }
 
 fn put_gap(job: &mut [usize], at: usize, spacing: usize) {
-    put(job, plus(at, 2), 1);
-    put(job, plus(at, 3), 0);
-    put(job, plus(at, 4), spacing);
+    put(job, at.wrapping_add(2), 1);
+    put(job, at.wrapping_add(3), 0);
+    put(job, at.wrapping_add(4), spacing);
 }
 
 // Every link has the same width.
@@ -110,10 +101,8 @@ pub fn put_widths(job: &mut [usize], width: usize)
     ensures { length job.new ≡ length job.old }
 {
     let k = get(job, K);
-    let mut l = 0;
-    while l < k {
-        put(job, plus(WIDTHS, l), width);
-        l += 1;
+    for l in 0..k {
+        put(job, WIDTHS.wrapping_add(l), width);
     }
 }
 
@@ -121,10 +110,8 @@ pub fn put_widths(job: &mut [usize], width: usize)
 pub fn want_firsts(job: &mut [usize], m: usize)
     ensures { length job.new ≡ length job.old }
 {
-    let mut l = 0;
-    while l < 136 {
-        let f = khz(job, first(job, l));
-        put(job, plus(PLAN, l), either(l < m, f, 0));
-        l += 1;
+    for l in 0..136 {
+        let f = if l < m { khz(job, first(job, l)) } else { 0 };
+        put(job, PLAN + l, f);
     }
 }

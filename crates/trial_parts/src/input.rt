@@ -3,82 +3,63 @@
 ghost use Rattle.std.specs.Prelude.{◌≡◌, ◌+◌, ◌%◌, ◌^◌, ◌≤◌, get_or, length, set};
 
 use trial_tables::kept::{AT, INPUT};
-use trial_tables::{get, get_byte, less, plus, put};
+use trial_tables::{get, put};
 
-pub const SKIP: usize = 1000000000000;
+// Numbers, as the table of the input has numbers alone.
+pub const SKIP: usize = 1_000_000_000_000;
 
-pub const EQUALS: usize = 61;
+pub const EQUALS: usize = b'=' as usize;
 
-const BETWEEN: usize = 0;
-
-const NUMBER: usize = 1;
-
-const WORD: usize = 2;
-
-const REST: usize = 3;
+// What a byte of the input belongs to.
+#[derive(Clone, Copy, PartialEq, Eq, Debug)]
+enum Part {
+    Between,
+    Number,
+    Word,
+    Rest,
+}
 
 // What a byte belongs to, after a byte that belongs to `before`.
-fn part(b: usize, before: usize) -> usize {
-    if b == 10 {
-        return BETWEEN;
+fn part_of(b: u8, before: Part) -> Part {
+    match b {
+        b'\n' => Part::Between,
+        _ if before == Part::Rest => Part::Rest,
+        b'#' | b'=' => Part::Rest,
+        0..=b' ' => Part::Between,
+        b'0'..=b'9' => Part::Number,
+        _ => Part::Word,
     }
-    if before == REST {
-        return REST;
-    }
-    if b == 35 {
-        return REST;
-    }
-    if b == EQUALS {
-        return REST;
-    }
-    if b <= 32 {
-        return BETWEEN;
-    }
-    if 57 < b {
-        return WORD;
-    }
-    if b < 48 {
-        return WORD;
-    }
-    NUMBER
 }
 
 // One more word or number after m. Gives how many there are.
 fn begin(kept: &mut [usize], m: usize, x: usize) -> usize {
-    put(kept, plus(INPUT, m), x);
-    plus(m, 1)
+    put(kept, INPUT.wrapping_add(m), x);
+    m.wrapping_add(1)
 }
 
 // One digit more of the last of m.
 fn go_on(kept: &mut [usize], m: usize, digit: usize) -> usize {
-    let at = plus(INPUT, less(m, 1));
-    let x = get(kept, at) % 1000000000000 * 10;
-    put(kept, at, plus(x, digit));
+    let at = INPUT.wrapping_add(m.saturating_sub(1));
+    let x = get(kept, at) % 1_000_000_000_000 * 10;
+    put(kept, at, x.wrapping_add(digit));
     m
 }
 
 // Byte b at place i, where m words and numbers are begun before it. Gives how many are begun after it.
-fn take_byte(kept: &mut [usize], m: usize, i: usize, b: usize, now: usize, before: usize) -> usize {
-    if now == before {
-        if now == NUMBER {
-            return go_on(kept, m, less(b, 48));
+fn take_byte(kept: &mut [usize], m: usize, i: usize, b: u8, now: Part, before: Part) -> usize {
+    let digit = usize::from(b.saturating_sub(b'0'));
+    match now {
+        Part::Number if before == Part::Number => go_on(kept, m, digit),
+        _ if before == now => m,
+        Part::Number => begin(kept, m, digit),
+        Part::Word if b == b'-' => begin(kept, m, SKIP),
+        Part::Word => begin(kept, m, usize::from(b)),
+        Part::Rest if b == b'=' => {
+            let next = begin(kept, m, EQUALS);
+            begin(kept, next, i.wrapping_add(2))
         }
-        return m;
+        _ => m,
     }
-    if now == NUMBER {
-        return begin(kept, m, less(b, 48));
-    }
-    if b == EQUALS {
-        let next = begin(kept, m, b);
-        return begin(kept, next, plus(i, 2));
-    }
-    if now != WORD {
-        return m;
-    }
-    if b == 45 {
-        return begin(kept, m, SKIP);
-    }
-    begin(kept, m, b)
 }
 
 // Reads the input. Gives how many words and numbers it has.
@@ -86,14 +67,11 @@ pub fn read(text: &[u8], kept: &mut [usize]) -> usize
     ensures { length kept.new ≡ length kept.old }
 {
     let mut m = 0;
-    let mut before = 0;
-    let mut i = 0;
-    while i < text.len() {
-        let b = get_byte(text, i);
-        let now = part(b, before);
-        m = take_byte(kept, m, i, b, now, before);
+    let mut before = Part::Between;
+    for (i, b) in text.iter().enumerate() {
+        let now = part_of(*b, before);
+        m = take_byte(kept, m, i, *b, now, before);
         before = now;
-        i += 1;
     }
     m
 }
@@ -104,19 +82,17 @@ pub fn next(kept: &mut [usize]) -> usize
         (result ≡ get_or kept.new ((29058 + get_or kept.old 0 0) % 2 ^ 64) 0) }
 {
     let at = get(kept, AT);
-    put(kept, AT, plus(at, 1));
-    get(kept, plus(INPUT, at))
+    put(kept, AT, at.wrapping_add(1));
+    get(kept, INPUT.wrapping_add(at))
 }
 
 // The next m numbers, to places from `from` on.
 pub fn next_run(kept: &mut [usize], from: usize, m: usize)
     ensures { length kept.new ≡ length kept.old }
 {
-    let mut i = 0;
-    while i < m {
+    for i in 0..m {
         let x = next(kept);
-        put(kept, plus(from, i), x);
-        i += 1;
+        put(kept, from.wrapping_add(i), x);
     }
 }
 
@@ -124,12 +100,10 @@ pub fn next_run(kept: &mut [usize], from: usize, m: usize)
 pub fn line_end(text: &[u8], from: usize) -> usize
     ensures { result ≤ length text.now }
 {
-    let mut i = from;
-    while i < text.len() {
-        if get_byte(text, i) == 10 {
+    for i in from..text.len() {
+        if text[i] == b'\n' {
             return i;
         }
-        i += 1;
     }
     text.len()
 }

@@ -10,7 +10,7 @@ pub use even::{put_own, want_firsts};
 pub use input::{EQUALS, SKIP, line_end, next, next_run, read};
 pub use reading::reads_job;
 pub use trial_tables::{
-    after, copy_bytes, count, distance, either, encode, first, first_bytes, get, get_byte,
-    get_cell, kept, khz, less, more, narrow, plus, put, put_byte, put_bytes, put_cell, put_half,
-    put_link, put_pair, put_rule, put_word, rule_at, times, widths,
+    Cell, add_pair, add_rule, after, copy_cells, count, encode, first, first_bytes, get, kept, khz,
+    more, narrow, put, put_bytes, put_half, put_link, put_pair, put_rule, put_word, rule_at,
+    rule_of, times, widths,
 };

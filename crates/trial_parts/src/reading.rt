@@ -8,21 +8,6 @@ use trial_tables::kept::{
 };
 use trial_tables::{get, put, times};
 
-// The words that begin a row with a job, by their first bytes.
-const EVEN: usize = 101;
-
-const GAP: usize = 103;
-
-const KHZ: usize = 107;
-
-const MANY: usize = 109;
-
-const OWN: usize = 111;
-
-const SHEET: usize = 115;
-
-const UHF: usize = 117;
-
 // The counts. The sheet is of form 1, until a row gives widths, and no channel is on air, until a row gives some.
 fn read_counts(job: &mut [usize]) {
     put(job, WIDE, 0);
@@ -73,43 +58,25 @@ fn read_channels(job: &mut [usize]) {
     next_run(job, CHANNELS, m);
 }
 
-// Reads a row that changes the job. Says whether the word begins one.
-fn changes_job(job: &mut [usize], word: usize) -> bool {
-    if word == KHZ {
-        read_widths(job);
-        return true;
-    }
-    if word == MANY {
-        read_festival(job);
-        return true;
-    }
-    if word == GAP {
-        read_gap(job);
-        return true;
-    }
-    if word == UHF {
-        read_channels(job);
-        return true;
-    }
-    false
+fn read_own(job: &mut [usize]) {
+    read_even(job);
+    put_own(job);
 }
 
-// Reads a row with a job. Says whether the word begins one.
+// Reads a row with a job, which the words `sheet`, `even` and `own` begin, or one that changes the job, which `khz`,
+// `many`, `gap` and `uhf` begin, each by its first byte. Says whether the word begins one.
 pub fn reads_job(job: &mut [usize], word: usize) -> bool
     ensures { length job.new ≡ length job.old }
 {
-    if word == SHEET {
-        read_sheet(job);
-        return true;
+    match u8::try_from(word) {
+        Ok(b's') => read_sheet(job),
+        Ok(b'e') => read_even(job),
+        Ok(b'o') => read_own(job),
+        Ok(b'k') => read_widths(job),
+        Ok(b'm') => read_festival(job),
+        Ok(b'g') => read_gap(job),
+        Ok(b'u') => read_channels(job),
+        _ => return false,
     }
-    if word == EVEN {
-        read_even(job);
-        return true;
-    }
-    if word == OWN {
-        read_even(job);
-        put_own(job);
-        return true;
-    }
-    changes_job(job, word)
+    true
 }

@@ -7,29 +7,10 @@ use trial_calls::{ACCEPTED, ANY, checks, plans, plans_in};
 use trial_job::fill;
 use trial_parts::kept::{CELLS, CHOICE, FILTER, LIMIT, LIST, LISTED, NUMBER, PLAN, WANTED};
 use trial_parts::{
-    SKIP, either, encode, first_bytes, get, next, next_run, plus, put, put_bytes, put_cell,
-    put_half, put_word, want_firsts,
+    SKIP, encode, first_bytes, get, narrow, next, next_run, put, put_bytes, put_half, put_word,
+    want_firsts,
 };
 use trial_spares::display_row;
-
-// The words that begin a row on a sheet, by their first bytes.
-const ALTER: usize = 97;
-
-const BESIDE: usize = 98;
-
-const CHECK: usize = 99;
-
-const DISPLAY: usize = 100;
-
-const FIRST: usize = 102;
-
-const PLANS: usize = 112;
-
-const TAKES: usize = 116;
-
-const WITHIN: usize = 119;
-
-const YIELDS: usize = 121;
 
 // One filter number of a row `plan`.
 fn plan_under(
@@ -54,12 +35,10 @@ fn plan_filters(
     sheet: &[u8],
     list: &[u8],
 ) -> io::Result<bool> {
-    let mut filter = 0;
-    while filter < 8 {
+    for filter in 0..8 {
         if !plan_under(rt, kept, sheet, list, filter)? {
             return Ok(false);
         }
-        filter += 1;
     }
     Ok(true)
 }
@@ -83,8 +62,9 @@ fn yields_row(rt: &impl Print, kept: &mut [usize], sheet: &[u8], list: &[u8]) ->
 
 // The refusal wanted, or 0 where the call is to be accepted.
 fn want_refusal(kept: &mut [usize], number: usize) {
+    let nodes = if number == ACCEPTED { ANY } else { 0 };
     put(kept, NUMBER, number);
-    put(kept, WANTED, either(number == ACCEPTED, ANY, 0));
+    put(kept, WANTED, nodes);
 }
 
 fn plans_within(
@@ -97,13 +77,10 @@ fn plans_within(
 ) -> io::Result<bool> {
     let c = next(kept);
     let w = next(kept);
-    if cells.len() < c {
+    if cells.len() < c || work.len() < w {
         return Ok(false);
     }
-    if work.len() < w {
-        return Ok(false);
-    }
-    plans_in(rt, kept, sheet, list, &mut cells[0..c], &mut work[0..w])
+    plans_in(rt, kept, sheet, list, &mut cells[..c], &mut work[..w])
 }
 
 // `within`: filter, choice, limit, the refusal, or 0 where the call is accepted, and the cells and words lent.
@@ -118,10 +95,8 @@ fn within_row(rt: &impl Print, kept: &mut [usize], sheet: &[u8], list: &[u8]) ->
 
 // The first m cells of the plan wanted.
 fn plan_cells(kept: &[usize], cells: &mut [u32], m: usize) {
-    let mut i = 0;
-    while i < m {
-        put_cell(cells, i, get(kept, plus(PLAN, i)));
-        i += 1;
+    for (l, cell) in cells.iter_mut().enumerate().take(m) {
+        *cell = narrow(get(kept, PLAN.wrapping_add(l)));
     }
 }
 
@@ -136,7 +111,7 @@ fn checks_first(
     if cells.len() < m {
         return Ok(false);
     }
-    checks(rt, kept, sheet, &cells[0..m], number)
+    checks(rt, kept, sheet, &cells[..m], number)
 }
 
 // `check`: how many cells, the cells, and the number of the answer.
@@ -170,21 +145,12 @@ fn refuses_under(
 // after the sheet, too.
 fn refuses(rt: &impl Print, kept: &mut [usize], sheet: &[u8], number: usize) -> io::Result<bool> {
     let zeros = [0u32; 136];
-    if !refuses_under(rt, kept, sheet, 0, 0, 1000000, number)? {
-        return Ok(false);
-    }
-    if !refuses_under(
-        rt,
-        kept,
-        sheet,
-        8,
-        3,
-        0,
-        either(number == ACCEPTED, 9, number),
-    )? {
-        return Ok(false);
-    }
-    checks(rt, kept, sheet, &zeros, number)
+    let past = if number == ACCEPTED { 9 } else { number };
+    Ok(
+        refuses_under(rt, kept, sheet, 0, 0, 1000000, number)?
+            && refuses_under(rt, kept, sheet, 8, 3, 0, past)?
+            && checks(rt, kept, sheet, &zeros, number)?,
+    )
 }
 
 // `first`: bytes lent of the sheet, and the refusal, or 0.
@@ -198,12 +164,10 @@ fn alter(kept: &mut [usize], sheet: &mut [u8]) {
     let width = next(kept);
     let at = next(kept);
     let x = next(kept);
-    if width == 2 {
-        put_half(sheet, at, x);
-        return;
-    }
-    if width == 4 {
-        put_word(sheet, at, x);
+    match width {
+        2 => put_half(sheet, at, x),
+        4 => put_word(sheet, at, x),
+        _ => {}
     }
 }
 
@@ -221,13 +185,11 @@ fn alter_row(
 }
 
 fn takes_filters(rt: &impl Print, kept: &mut [usize], sheet: &[u8]) -> io::Result<bool> {
-    let mut filter = 0;
-    while filter < 8 {
+    for filter in 0..8 {
         put(kept, FILTER, filter);
         if !plans(rt, kept, sheet, b"")? {
             return Ok(false);
         }
-        filter += 1;
     }
     Ok(true)
 }
@@ -240,10 +202,7 @@ fn takes_row(rt: &impl Print, kept: &mut [usize], sheet: &[u8]) -> io::Result<bo
     next_run(kept, NUMBER, 2);
     let m = next(kept);
     want_firsts(kept, m);
-    if !takes_filters(rt, kept, sheet)? {
-        return Ok(false);
-    }
-    checks_plan(rt, kept, sheet)
+    Ok(takes_filters(rt, kept, sheet)? && checks_plan(rt, kept, sheet)?)
 }
 
 // The check of the plan wanted.
@@ -261,7 +220,7 @@ fn beside_row(rt: &impl Print, kept: &mut [usize], sheet: &[u8], list: &[u8]) ->
     beside(rt, kept, &graph, sheet, list)
 }
 
-// A row with the sheet and the list.
+// A row with the sheet and the list, by the first byte of its word.
 fn called_row(
     rt: &impl Print,
     kept: &mut [usize],
@@ -269,28 +228,16 @@ fn called_row(
     sheet: &[u8],
     list: &[u8],
 ) -> io::Result<bool> {
-    if word == PLANS {
-        return plan_row(rt, kept, sheet, list);
+    match u8::try_from(word) {
+        Ok(b'p') => plan_row(rt, kept, sheet, list),
+        Ok(b'y') => yields_row(rt, kept, sheet, list),
+        Ok(b'w') => within_row(rt, kept, sheet, list),
+        Ok(b'c') => check_row(rt, kept, sheet),
+        Ok(b'd') => display_row(rt, kept, sheet),
+        Ok(b't') => takes_row(rt, kept, sheet),
+        Ok(b'b') => beside_row(rt, kept, sheet, list),
+        _ => Ok(false),
     }
-    if word == YIELDS {
-        return yields_row(rt, kept, sheet, list);
-    }
-    if word == WITHIN {
-        return within_row(rt, kept, sheet, list);
-    }
-    if word == CHECK {
-        return check_row(rt, kept, sheet);
-    }
-    if word == DISPLAY {
-        return display_row(rt, kept, sheet);
-    }
-    if word == TAKES {
-        return takes_row(rt, kept, sheet);
-    }
-    if word == BESIDE {
-        return beside_row(rt, kept, sheet, list);
-    }
-    Ok(false)
 }
 
 fn listed_row(rt: &impl Print, kept: &mut [usize], word: usize, sheet: &[u8]) -> io::Result<bool> {
@@ -300,17 +247,15 @@ fn listed_row(rt: &impl Print, kept: &mut [usize], word: usize, sheet: &[u8]) ->
     called_row(rt, kept, word, sheet, first_bytes(&list, m))
 }
 
-// A row on the job's sheet.
+// A row on the job's sheet, by the first byte of its word.
 pub fn row_on_sheet(rt: &impl Print, kept: &mut [usize], word: usize) -> io::Result<bool>
     ensures { length kept.new ≡ length kept.old }
 {
     let mut sheet = [0u8; 62400];
     let length = encode(kept, &mut sheet);
-    if word == ALTER {
-        return alter_row(rt, kept, &mut sheet, length);
+    match u8::try_from(word) {
+        Ok(b'a') => alter_row(rt, kept, &mut sheet, length),
+        Ok(b'f') => first_row(rt, kept, &sheet),
+        _ => listed_row(rt, kept, word, first_bytes(&sheet, length)),
     }
-    if word == FIRST {
-        return first_row(rt, kept, &sheet);
-    }
-    listed_row(rt, kept, word, first_bytes(&sheet, length))
 }

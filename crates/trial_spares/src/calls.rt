@@ -5,7 +5,7 @@ use crate::places::{is_judged, is_table, links_shown, list_end};
 use crate::report::is_answer;
 use std::io;
 use trial_parts::kept::{CHANNELS, CHECKS, K, ON_AIR, SPARES};
-use trial_parts::{first_bytes, get, get_cell, khz, less, more, plus, put_bytes, put_cell, times};
+use trial_parts::{copy_cells, first_bytes, get, khz, more, put, put_bytes, times};
 
 // The number of the answer.
 fn ask(sheet: &[u8], channels: &[u8], cells: &[u32], table: &mut [i32]) -> usize {
@@ -27,7 +27,7 @@ pub fn shows_in(
     let mut vertices = [0usize; 128];
     more(kept, SPARES);
     let got = ask(sheet, channels, cells, table);
-    if !is_answer(rt, got, number, get_cell(cells, 0))? {
+    if !is_answer(rt, got, number, get(cells, 0))? {
         return Ok(false);
     }
     let k = links_shown(kept, cells, number, &mut vertices);
@@ -45,18 +45,8 @@ fn shows_on(
     places: usize,
 ) -> io::Result<bool> {
     let mut table = [7i32; 16448];
-    if table.len() < places {
-        return shows_in(rt, kept, sheet, channels, cells, number, &mut table);
-    }
-    shows_in(
-        rt,
-        kept,
-        sheet,
-        channels,
-        cells,
-        number,
-        &mut table[0..places],
-    )
+    let end = places.min(table.len());
+    shows_in(rt, kept, sheet, channels, cells, number, &mut table[..end])
 }
 
 // The places of a table of all links.
@@ -67,10 +57,7 @@ fn all_places(kept: &[usize]) -> usize {
 
 // The number of checks so far, modulo m, by which the calls differ.
 fn turn(kept: &[usize], m: usize) -> usize {
-    if m == 0 {
-        return 0;
-    }
-    get(kept, CHECKS) % m
+    if m == 0 { 0 } else { get(kept, CHECKS) % m }
 }
 
 // With as many places as there are pairs of links, or up to three more; and with fewer.
@@ -84,27 +71,12 @@ fn shows_places(
 ) -> io::Result<bool> {
     let places = all_places(kept);
     let extra = turn(kept, 4);
-    if !shows_on(
-        rt,
-        kept,
-        sheet,
-        channels,
-        cells,
-        number,
-        plus(places, extra),
-    )? {
+    let enough = places.wrapping_add(extra);
+    if !shows_on(rt, kept, sheet, channels, cells, number, enough)? {
         return Ok(false);
     }
     let few = turn(kept, places);
     shows_on(rt, kept, sheet, channels, cells, 10, few)
-}
-
-fn copy_cells(cells: &[u32], out: &mut [u32]) {
-    let mut i = 0;
-    while i < out.len() {
-        put_cell(out, i, get_cell(cells, i));
-        i += 1;
-    }
 }
 
 // With a cell that is not in its link's list, but one above its last frequency.
@@ -118,8 +90,8 @@ fn shows_unlisted(
     let mut other = [0u32; 136];
     copy_cells(cells, &mut other);
     let l = turn(kept, get(kept, K));
-    let last = khz(kept, less(list_end(kept, l), 1));
-    put_cell(&mut other, l, plus(last, 1));
+    let last = khz(kept, list_end(kept, l).saturating_sub(1));
+    put(&mut other, l, last.wrapping_add(1));
     let places = all_places(kept);
     shows_on(rt, kept, sheet, channels, &other, 0, places)
 }
@@ -137,7 +109,7 @@ fn shows_refused(
     if !shows_on(rt, kept, sheet, &wrong, cells, 17, places)? {
         return Ok(false);
     }
-    let m = less(sheet.len(), 1);
+    let m = sheet.len().saturating_sub(1);
     shows_on(rt, kept, first_bytes(sheet, m), channels, cells, 4, places)
 }
 
@@ -154,13 +126,11 @@ fn shows_all(
         let places = all_places(kept);
         return shows_on(rt, kept, sheet, channels, cells, number, places);
     }
-    if !shows_places(rt, kept, sheet, channels, cells, number)? {
-        return Ok(false);
-    }
-    if !shows_unlisted(rt, kept, sheet, channels, cells)? {
-        return Ok(false);
-    }
-    shows_refused(rt, kept, sheet, channels, cells)
+    Ok(
+        shows_places(rt, kept, sheet, channels, cells, number)?
+            && shows_unlisted(rt, kept, sheet, channels, cells)?
+            && shows_refused(rt, kept, sheet, channels, cells)?,
+    )
 }
 
 // Whether the call with the channels of the job gives the number that the check gives, and the table; and, for cells

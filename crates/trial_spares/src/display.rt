@@ -7,36 +7,29 @@ use crate::report::is_place;
 use std::io;
 use trial_job::ZERO;
 use trial_parts::kept::{CHANNELS, ON_AIR};
-use trial_parts::{SKIP, first_bytes, get, less, next, plus, put_bytes, put_cell};
+use trial_parts::{SKIP, first_bytes, get, narrow, next, put_bytes};
 
 fn next_cells(kept: &mut [usize], cells: &mut [u32]) {
-    let mut i = 0;
-    while i < cells.len() {
-        let f = next(kept);
-        put_cell(cells, i, f);
-        i += 1;
+    for cell in cells.iter_mut() {
+        *cell = narrow(next(kept));
     }
 }
 
 // The next number of half kHz; a minus before it stands as `SKIP`.
 fn next_spare(kept: &mut [usize]) -> usize {
-    let x = next(kept);
-    if x != SKIP {
-        return plus(ZERO, x);
+    match next(kept) {
+        SKIP => ZERO.saturating_sub(next(kept)),
+        x => ZERO.wrapping_add(x),
     }
-    let y = next(kept);
-    less(ZERO, y)
 }
 
 // Whether the first places have the next m numbers.
 fn has_next(rt: &impl Print, kept: &mut [usize], table: &[i32], m: usize) -> io::Result<bool> {
-    let mut i = 0;
-    while i < m {
+    for i in 0..m {
         let wanted = next_spare(kept);
         if !is_place(rt, i, get_spare(table, i), wanted)? {
             return Ok(false);
         }
-        i += 1;
     }
     Ok(true)
 }
@@ -70,11 +63,8 @@ pub fn display_row(rt: &impl Print, kept: &mut [usize], sheet: &[u8]) -> io::Res
     let mut table = [7i32; 16448];
     let places = next(kept);
     let m = next(kept);
-    if table.len() < places {
+    if table.len() < places || cells.len() < m {
         return Ok(false);
     }
-    if cells.len() < m {
-        return Ok(false);
-    }
-    displays(rt, kept, sheet, &mut cells[0..m], &mut table[0..places])
+    displays(rt, kept, sheet, &mut cells[..m], &mut table[..places])
 }

@@ -1,23 +1,16 @@
 // What is printed of a difference.
-use std::io;
+use std::{fmt, io};
 use trial_job::ZERO;
-use trial_parts::distance;
 
-fn text(rt: &impl Print, words: &[u8]) -> io::Result<()> {
-    rt.write_all(words)
-}
+// A number of half kHz, ZERO larger, with its sign.
+#[derive(Clone, Copy, PartialEq, Eq, Debug)]
+struct HalfKhz(usize);
 
-fn number(rt: &impl Print, n: usize) -> io::Result<()> {
-    print!(rt; " {n}")
-}
-
-// A number of half kHz, with its sign.
-fn half_khz(rt: &impl Print, x: usize) -> io::Result<()> {
-    if x < ZERO {
-        let below = distance(x, ZERO);
-        return print!(rt; " -{below}");
+impl fmt::Display for HalfKhz {
+    fn fmt<W: fmt::Write>(&self, f: &mut fmt::Formatter<W>) -> fmt::Result {
+        let sign = if self.0 < ZERO { "-" } else { "" };
+        write!(f, "{sign}{}", self.0.abs_diff(ZERO))
     }
-    number(rt, distance(x, ZERO))
 }
 
 // Whether the number of an answer, for cells with this first one, is as wanted.
@@ -25,11 +18,7 @@ pub fn is_answer(rt: &impl Print, got: usize, wanted: usize, cell: usize) -> io:
     if got == wanted {
         return Ok(true);
     }
-    text(rt, b"difference: spares, wanted, first cell")?;
-    number(rt, got)?;
-    number(rt, wanted)?;
-    number(rt, cell)?;
-    text(rt, b"\n")?;
+    println!(rt; "difference: spares, wanted, first cell {got} {wanted} {cell}")?;
     Ok(false)
 }
 
@@ -38,10 +27,10 @@ pub fn is_place(rt: &impl Print, i: usize, got: usize, wanted: usize) -> io::Res
     if got == wanted {
         return Ok(true);
     }
-    text(rt, b"difference: place, spare, wanted")?;
-    number(rt, i)?;
-    half_khz(rt, got)?;
-    half_khz(rt, wanted)?;
-    text(rt, b"\n")?;
+    println!(rt;
+        "difference: place, spare, wanted {i} {} {}",
+        HalfKhz(got),
+        HalfKhz(wanted)
+    )?;
     Ok(false)
 }

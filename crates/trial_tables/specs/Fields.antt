@@ -1,6 +1,6 @@
 -- Fields of a sheet, written at a place: "unsigned, little-endian, 16 or 32 bits". A place past the last number a word
 -- holds wraps.
-use Rattle.std.specs.Prelude.{ℕ, ◌+◌, ◌*◌, ◌/◌, ◌%◌, ◌^◌, Bool, true, false, List, slice_index, slice_set}
+use Rattle.std.specs.Prelude.{ℕ, ◌+◌, ◌*◌, ◌/◌, ◌%◌, ◌^◌, List, slice_index, slice_set}
 
 abbrev pub half_at : List ℕ → ℕ → ℕ → List ℕ
 half_at l at x = slice_set (slice_set l at (x % 256)) ((at + 1) % 2 ^ 64) (x / 256 % 256)
@@ -15,10 +15,6 @@ pair_at l at x y = slice_set (slice_set l at x) ((at + 1) % 2 ^ 64) y
 abbrev pub rule_at : List ℕ → ℕ → ℕ → ℕ → ℕ → ℕ → ℕ → List ℕ
 rule_at l at a b kind m value =
     slice_set (slice_set (slice_set (pair_at l at a b) ((at + 2) % 2 ^ 64) kind) ((at + 3) % 2 ^ 64) m) ((at + 4) % 2 ^ 64) value
-
-abbrev pub chosen : Bool → ℕ → ℕ → ℕ
-chosen true a b = a
-chosen false a b = b
 
 -- the widths of two links together, 0 in form 1: a job's widths stand from 49538 on, and 0 for form 1 or 1 at 49667
 abbrev pub widths_of : List ℕ → ℕ → ℕ → ℕ

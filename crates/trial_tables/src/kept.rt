@@ -53,7 +53,7 @@ pub const PLAN: usize = 64;
 pub const LIST: usize = 200;
 
 // The job: its sheet's counts k, n, q and t, and its fields, two numbers a link, one a frequency, five a rule and two a
-// pair.
+// pair. A rule's kind is a number, as all of the table.
 pub const K: usize = 1300;
 
 pub const N: usize = 1301;

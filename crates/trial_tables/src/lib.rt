@@ -2,12 +2,14 @@
 // and the sheet that says them.
 #![tactic(auto)]
 
+mod cell;
 mod job;
 pub mod kept;
 mod parts;
 
-pub use job::{count, encode, first, khz, put_link, put_pair, put_rule, rule_at, widths};
-pub use parts::{
-    after, copy_bytes, distance, either, first_bytes, get, get_byte, get_cell, less, more, narrow,
-    plus, put, put_byte, put_bytes, put_cell, put_half, put_word, times,
+pub use cell::{Cell, copy_cells, get, put};
+pub use job::{
+    add_pair, add_rule, count, encode, first, khz, put_link, put_pair, put_rule, rule_at, rule_of,
+    widths,
 };
+pub use parts::{after, first_bytes, more, narrow, put_bytes, put_half, put_word, times};

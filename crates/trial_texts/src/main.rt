@@ -3,68 +3,46 @@
 #![tactic(auto)]
 
 mod job_rows;
-mod report;
 mod text_rows;
 
 use input::read_full;
 use job_rows::job_row;
-use report::{item, text};
 use std::io;
 use text_rows::{bytes_row, counts_row};
 use trial_parts::kept::{AT, CALLS, ROOM, ROWS};
-use trial_parts::{EQUALS, first_bytes, get, line_end, next, put, read};
-use trial_texts_calls::{EXPORTS, IMPORTS, more};
+use trial_parts::{EQUALS, first_bytes, get, line_end, more, next, put, read};
+use trial_texts_calls::{EXPORTS, IMPORTS};
 use trial_texts_there::small_sheets;
-
-// The words that begin a row without a job, by their first bytes.
-const BYTES: usize = 98;
-
-const COUNTS: usize = 99;
-
-const RANDOM: usize = 114;
-
-fn print_part(rt: &impl Print, words: &[u8], from: usize, end: usize) -> io::Result<()> {
-    if end < from {
-        return Ok(());
-    }
-    if words.len() < end {
-        return Ok(());
-    }
-    text(rt, &words[from..end])
-}
-
-// A number counted since the last line.
-fn print_count(rt: &impl Print, words: &[u8], kept: &mut [usize], what: usize) -> io::Result<()> {
-    item(rt, words, get(kept, what))?;
-    put(kept, what, 0);
-    Ok(())
-}
 
 // A line that begins with `=`: its text, and the calls since the last such line.
 fn print_line(rt: &impl Print, words: &[u8], kept: &mut [usize]) -> io::Result<()> {
     let from = next(kept);
-    print_part(rt, words, from, line_end(words, from))?;
-    print_count(rt, b"; exports:", kept, EXPORTS)?;
-    print_count(rt, b", imports:", kept, IMPORTS)?;
-    print_count(rt, b", calls of planning:", kept, CALLS)?;
-    text(rt, b"\n")?;
-    put(kept, ROWS, 0);
+    if let Some(text) = words.get(from..line_end(words, from)) {
+        rt.write_all(text)?;
+    }
+    println!(rt;
+        "; exports: {}, imports: {}, calls of planning: {}",
+        get(kept, EXPORTS),
+        get(kept, IMPORTS),
+        get(kept, CALLS)
+    )?;
+    for what in [EXPORTS, IMPORTS, CALLS, ROWS] {
+        put(kept, what, 0);
+    }
     Ok(())
 }
 
-// A row. Says whether all was as wanted.
+// A row, by the first byte of its word. Says whether all was as wanted.
 fn row(rt: &impl Print, words: &[u8], kept: &mut [usize], word: usize) -> io::Result<bool> {
-    if word == COUNTS {
-        return counts_row(rt, kept);
+    match u8::try_from(word) {
+        Ok(b'c') => counts_row(rt, kept),
+        Ok(b'b') => bytes_row(rt, words, kept),
+        Ok(b'r') => {
+            let m = next(kept);
+            small_sheets(rt, kept, m)
+        }
+        _ => job_row(rt, kept, word),
     }
-    if word == BYTES {
-        return bytes_row(rt, words, kept);
-    }
-    if word == RANDOM {
-        let m = next(kept);
-        return small_sheets(rt, kept, m);
-    }
-    job_row(rt, kept, word)
 }
 
 // A row, or a line to print.
@@ -80,15 +58,13 @@ fn row_or_line(rt: &impl Print, words: &[u8], kept: &mut [usize]) -> io::Result<
 
 // The rows of an input of m words and numbers, up to a difference.
 fn rows_of(rt: &impl Print, words: &[u8], kept: &mut [usize], m: usize) -> io::Result<bool> {
-    let mut i = 0;
-    while i < m {
+    for _ in 0..m {
         if m <= get(kept, AT) {
             return Ok(true);
         }
         if !row_or_line(rt, words, kept)? {
             return Ok(false);
         }
-        i += 1;
     }
     Ok(true)
 }
@@ -96,11 +72,9 @@ fn rows_of(rt: &impl Print, words: &[u8], kept: &mut [usize], m: usize) -> io::R
 fn run(rt: &impl Print, words: &[u8], kept: &mut [usize]) -> io::Result<()> {
     let m = read(words, kept);
     if rows_of(rt, words, kept, m)? {
-        text(rt, b"no difference\n")?;
-        return Ok(());
+        return println!(rt; "no difference");
     }
-    item(rt, b"stopped in row", get(kept, ROWS))?;
-    text(rt, b" after the last line\n")
+    println!(rt; "stopped in row {} after the last line", get(kept, ROWS))
 }
 
 fn main(rt: HostRuntime) -> io::Result<()> {

@@ -1,6 +1,7 @@
 // The rows of texts. Each says whether all was as wanted.
 use std::io;
 use trial_parts::{EQUALS, first_bytes, line_end, next};
+use trial_texts_calls::Texts;
 use trial_texts_parts::{put_equal_counts, put_head, put_quoted};
 use trial_texts_there::gives;
 
@@ -15,13 +16,11 @@ pub fn counts_row(rt: &impl Print, kept: &mut [usize]) -> io::Result<bool> {
     let m = next(kept);
     let g = put_head(&mut text, n, m);
     let number = next(kept);
-    gives(
-        rt,
-        kept,
-        first_bytes(&text, g),
-        first_bytes(&sizes, c),
-        number,
-    )
+    let texts = Texts {
+        graph: first_bytes(&text, g),
+        counts: first_bytes(&sizes, c),
+    };
+    gives(rt, kept, texts, number)
 }
 
 // The next quoted text. Gives its length.
@@ -40,11 +39,9 @@ pub fn bytes_row(rt: &impl Print, words: &[u8], kept: &mut [usize]) -> io::Resul
     let number = next(kept);
     let g = quoted(words, kept, &mut text);
     let c = quoted(words, kept, &mut sizes);
-    gives(
-        rt,
-        kept,
-        first_bytes(&text, g),
-        first_bytes(&sizes, c),
-        number,
-    )
+    let texts = Texts {
+        graph: first_bytes(&text, g),
+        counts: first_bytes(&sizes, c),
+    };
+    gives(rt, kept, texts, number)
 }

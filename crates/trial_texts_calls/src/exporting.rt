@@ -1,56 +1,42 @@
 // Exports beside the texts wanted.
 ghost use Rattle.std.specs.Prelude.{◌≡◌, length};
 
-use crate::counted::{EXPORTS, more};
+use crate::counted::EXPORTS;
 use crate::report::{holds, is_same};
-use graph_export::{Exported, export, export_number};
+use crate::wanted::{NO_TEXTS, Texts};
+use graph_export::{ExportRefusal, Lengths, export, export_number};
 use std::io;
-use trial_parts::{either, first_bytes, less};
+use trial_parts::more;
 use trial_texts_parts::fill_bytes;
 
 // An export into outputs that are not zero before.
-fn export_over(kept: &mut [usize], sheet: &[u8], graph: &mut [u8], counts: &mut [u8]) -> Exported {
+fn export_over(
+    kept: &mut [usize],
+    sheet: &[u8],
+    graph: &mut [u8],
+    counts: &mut [u8],
+) -> Result<Lengths, ExportRefusal> {
     more(kept, EXPORTS);
     fill_bytes(graph, 7);
     fill_bytes(counts, 7);
     export(sheet, graph, counts)
 }
 
-// Whether an export says a number, and the lengths of texts.
+// Whether an export says a number, and the lengths of texts, none where it is refused.
 fn says(
     rt: &impl Print,
-    e: Exported,
+    exported: Result<Lengths, ExportRefusal>,
     number: usize,
-    text: &[u8],
-    sizes: &[u8],
+    texts: Texts,
 ) -> io::Result<bool> {
-    let answer = e.answer;
-    if !is_same(
-        rt,
-        b"number of the export",
-        export_number(answer) as usize,
-        number,
-    )? {
-        return Ok(false);
-    }
-    if !is_same(rt, b"length of the graph text", e.graph, text.len())? {
-        return Ok(false);
-    }
-    is_same(rt, b"length of the count text", e.counts, sizes.len())
-}
-
-// Whether outputs hold both texts, and zeros after them.
-fn hold_texts(
-    rt: &impl Print,
-    graph: &[u8],
-    counts: &[u8],
-    text: &[u8],
-    sizes: &[u8],
-) -> io::Result<bool> {
-    if !holds(rt, b"in the graph text", graph, text)? {
-        return Ok(false);
-    }
-    holds(rt, b"in the count text", counts, sizes)
+    let got = export_number(exported) as usize;
+    let graph = exported.map_or(0, |lengths| lengths.graph);
+    let counts = exported.map_or(0, |lengths| lengths.counts);
+    Ok(
+        is_same(rt, "number of the export", got, number)?
+            && is_same(rt, "length of the graph text", graph, texts.graph.len())?
+            && is_same(rt, "length of the count text", counts, texts.counts.len())?,
+    )
 }
 
 // Whether an export gives a number, and both texts with zeros after them; for a refusal only zeros.
@@ -61,29 +47,20 @@ pub fn exports(
     graph: &mut [u8],
     counts: &mut [u8],
     number: usize,
-    text: &[u8],
-    sizes: &[u8],
+    texts: Texts,
 ) -> io::Result<bool>
     ensures { length kept.new ≡ length kept.old }
 {
-    let g = first_bytes(text, either(number == 0, text.len(), 0));
-    let c = first_bytes(sizes, either(number == 0, sizes.len(), 0));
-    let e = export_over(kept, sheet, graph, counts);
-    if !says(rt, e, number, g, c)? {
-        return Ok(false);
-    }
-    hold_texts(rt, graph, counts, g, c)
+    let wanted = if number == 0 { texts } else { NO_TEXTS };
+    let exported = export_over(kept, sheet, graph, counts);
+    Ok(
+        says(rt, exported, number, wanted)?
+            && holds(rt, "in the graph text", graph, wanted.graph)?
+            && holds(rt, "in the count text", counts, wanted.counts)?,
+    )
 }
 
-// The number wanted of an export into g and c bytes.
-fn number_in(g: usize, c: usize, text: &[u8], sizes: &[u8]) -> usize {
-    if g < text.len() {
-        return 15;
-    }
-    either(c < sizes.len(), 15, 0)
-}
-
-// The same in the first g and c bytes of the outputs.
+// The same in the first g and c bytes of the outputs: number 15 where they are too few.
 fn exports_first(
     rt: &impl Print,
     kept: &mut [usize],
@@ -92,62 +69,25 @@ fn exports_first(
     counts: &mut [u8],
     g: usize,
     c: usize,
-    text: &[u8],
-    sizes: &[u8],
+    texts: Texts,
 ) -> io::Result<bool> {
     if graph.len() < g {
-        return is_same(rt, b"room for the graph text", graph.len(), g);
+        return is_same(rt, "room for the graph text", graph.len(), g);
     }
     if counts.len() < c {
-        return is_same(rt, b"room for the count text", counts.len(), c);
+        return is_same(rt, "room for the count text", counts.len(), c);
     }
-    let number = number_in(g, c, text, sizes);
+    let is_short = g < texts.graph.len() || c < texts.counts.len();
+    let number = if is_short { 15 } else { 0 };
     exports(
         rt,
         kept,
         sheet,
-        &mut graph[0..g],
-        &mut counts[0..c],
+        &mut graph[..g],
+        &mut counts[..c],
         number,
-        text,
-        sizes,
+        texts,
     )
-}
-
-// The same in outputs that are one byte too short in either.
-fn exports_short(
-    rt: &impl Print,
-    kept: &mut [usize],
-    sheet: &[u8],
-    graph: &mut [u8],
-    counts: &mut [u8],
-    text: &[u8],
-    sizes: &[u8],
-) -> io::Result<bool> {
-    let g = text.len();
-    let c = sizes.len();
-    if !exports_first(rt, kept, sheet, graph, counts, less(g, 1), c, text, sizes)? {
-        return Ok(false);
-    }
-    exports_first(rt, kept, sheet, graph, counts, g, less(c, 1), text, sizes)
-}
-
-// The same in outputs exactly long enough, and too short.
-fn exports_close(
-    rt: &impl Print,
-    kept: &mut [usize],
-    sheet: &[u8],
-    graph: &mut [u8],
-    counts: &mut [u8],
-    text: &[u8],
-    sizes: &[u8],
-) -> io::Result<bool> {
-    let g = text.len();
-    let c = sizes.len();
-    if !exports_first(rt, kept, sheet, graph, counts, g, c, text, sizes)? {
-        return Ok(false);
-    }
-    exports_short(rt, kept, sheet, graph, counts, text, sizes)
 }
 
 // The same in outputs with room left, exactly long enough, and one byte too short in either.
@@ -157,13 +97,18 @@ pub fn exports_all(
     sheet: &[u8],
     graph: &mut [u8],
     counts: &mut [u8],
-    text: &[u8],
-    sizes: &[u8],
+    texts: Texts,
 ) -> io::Result<bool>
     ensures { length kept.new ≡ length kept.old }
 {
-    if !exports(rt, kept, sheet, graph, counts, 0, text, sizes)? {
-        return Ok(false);
-    }
-    exports_close(rt, kept, sheet, graph, counts, text, sizes)
+    let g = texts.graph.len();
+    let c = texts.counts.len();
+    let less_g = g.saturating_sub(1);
+    let less_c = c.saturating_sub(1);
+    Ok(
+        exports(rt, kept, sheet, graph, counts, 0, texts)?
+            && exports_first(rt, kept, sheet, graph, counts, g, c, texts)?
+            && exports_first(rt, kept, sheet, graph, counts, less_g, c, texts)?
+            && exports_first(rt, kept, sheet, graph, counts, g, less_c, texts)?,
+    )
 }

@@ -1,105 +1,97 @@
 // Imports beside the sheet wanted.
 ghost use Rattle.std.specs.Prelude.{◌≡◌, length};
 
-use crate::counted::{IMPORTS, more};
+use crate::counted::IMPORTS;
 use crate::report::{holds, is_same};
-use graph_import::{Imported, import, import_number};
+use crate::wanted::Texts;
+use graph_import::{ImportRefusal, import, import_number};
 use std::io;
-use trial_parts::less;
+use trial_parts::more;
 use trial_texts_parts::fill_bytes;
 
-// An import into an output that is not zero before.
-fn import_over(kept: &mut [usize], text: &[u8], sizes: &[u8], sheet: &mut [u8]) -> Imported {
+// An import into an output that is not zero before: the length of the sheet.
+fn import_over(kept: &mut [usize], texts: Texts, sheet: &mut [u8]) -> Result<usize, ImportRefusal> {
     more(kept, IMPORTS);
     fill_bytes(sheet, 7);
-    import(text, sizes, sheet)
+    import(texts.graph, texts.counts, sheet)
 }
 
-fn has_number(rt: &impl Print, i: Imported, number: usize) -> io::Result<bool> {
-    let answer = i.answer;
-    is_same(
-        rt,
-        b"number of the import",
-        import_number(answer) as usize,
-        number,
-    )
+fn has_number(
+    rt: &impl Print,
+    imported: Result<usize, ImportRefusal>,
+    number: usize,
+) -> io::Result<bool> {
+    let got = import_number(imported) as usize;
+    is_same(rt, "number of the import", got, number)
 }
 
 // Whether an import gives a number, and the sheet with zeros after it. For a refusal the sheet is empty.
 pub fn imports(
     rt: &impl Print,
     kept: &mut [usize],
-    text: &[u8],
-    sizes: &[u8],
+    texts: Texts,
     sheet: &mut [u8],
     number: usize,
     wanted: &[u8],
 ) -> io::Result<bool>
     ensures { length kept.new ≡ length kept.old }
 {
-    let i = import_over(kept, text, sizes, sheet);
-    if !has_number(rt, i, number)? {
-        return Ok(false);
-    }
-    if !is_same(rt, b"length of the imported sheet", i.length, wanted.len())? {
-        return Ok(false);
-    }
-    holds(rt, b"in the imported sheet", sheet, wanted)
+    let imported = import_over(kept, texts, sheet);
+    let length = imported.unwrap_or(0);
+    Ok(
+        has_number(rt, imported, number)?
+            && is_same(rt, "length of the imported sheet", length, wanted.len())?
+            && holds(rt, "in the imported sheet", sheet, wanted)?,
+    )
 }
 
 // The same in the first m bytes of the output: number 15 where they are too few.
 fn imports_first(
     rt: &impl Print,
     kept: &mut [usize],
-    text: &[u8],
-    sizes: &[u8],
+    texts: Texts,
     sheet: &mut [u8],
     m: usize,
     wanted: &[u8],
 ) -> io::Result<bool> {
     if sheet.len() < m {
-        return is_same(rt, b"room for the imported sheet", sheet.len(), m);
+        return is_same(rt, "room for the imported sheet", sheet.len(), m);
     }
     if m < wanted.len() {
-        return imports(rt, kept, text, sizes, &mut sheet[0..m], 15, b"");
+        return imports(rt, kept, texts, &mut sheet[..m], 15, b"");
     }
-    imports(rt, kept, text, sizes, &mut sheet[0..m], 0, wanted)
+    imports(rt, kept, texts, &mut sheet[..m], 0, wanted)
 }
 
 // The same in outputs one byte too short, exactly long enough, and with room left.
 pub fn imports_all(
     rt: &impl Print,
     kept: &mut [usize],
-    text: &[u8],
-    sizes: &[u8],
+    texts: Texts,
     sheet: &mut [u8],
     wanted: &[u8],
 ) -> io::Result<bool>
     ensures { length kept.new ≡ length kept.old }
 {
     let m = wanted.len();
-    if !imports_first(rt, kept, text, sizes, sheet, less(m, 1), wanted)? {
-        return Ok(false);
-    }
-    if !imports_first(rt, kept, text, sizes, sheet, m, wanted)? {
-        return Ok(false);
-    }
-    imports(rt, kept, text, sizes, sheet, 0, wanted)
+    let less = m.saturating_sub(1);
+    Ok(
+        imports_first(rt, kept, texts, sheet, less, wanted)?
+            && imports_first(rt, kept, texts, sheet, m, wanted)?
+            && imports(rt, kept, texts, sheet, 0, wanted)?,
+    )
 }
 
-// The length of the sheet of texts that are taken; 0 where they are not.
+// The length of the sheet of texts that are taken.
 pub fn imported_length(
     rt: &impl Print,
     kept: &mut [usize],
-    text: &[u8],
-    sizes: &[u8],
+    texts: Texts,
     sheet: &mut [u8],
-) -> io::Result<usize>
+) -> io::Result<Option<usize>>
     ensures { length kept.new ≡ length kept.old }
 {
-    let i = import_over(kept, text, sizes, sheet);
-    if !has_number(rt, i, 0)? {
-        return Ok(0);
-    }
-    Ok(i.length)
+    let imported = import_over(kept, texts, sheet);
+    has_number(rt, imported, 0)?;
+    Ok(imported.ok())
 }

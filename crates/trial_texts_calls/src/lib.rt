@@ -6,8 +6,10 @@ mod counted;
 mod exporting;
 mod importing;
 mod report;
+mod wanted;
 
-pub use counted::{EXPORTS, IMPORTS, more};
+pub use counted::{EXPORTS, IMPORTS};
 pub use exporting::{exports, exports_all};
 pub use importing::{imported_length, imports, imports_all};
 pub use report::is_same;
+pub use wanted::{NO_TEXTS, Texts};

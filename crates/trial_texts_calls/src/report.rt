@@ -2,30 +2,16 @@
 ghost use Rattle.std.specs.Prelude.{◌≡◌, ◌≢◌, eqb, IfOk, OnErr};
 
 use std::io;
-use trial_parts::get_byte;
+use trial_parts::get;
 use trial_texts_parts::first_difference;
 
-fn text(rt: &impl Print, words: &[u8]) -> io::Result<()> {
-    rt.write_all(words)
-}
-
-// A text and a number.
-fn item(rt: &impl Print, words: &[u8], n: usize) -> io::Result<()> {
-    text(rt, words)?;
-    print!(rt; " {n}")
-}
-
 // Two numbers that differ.
-fn print_difference(rt: &impl Print, words: &[u8], got: usize, wanted: usize) -> io::Result<()> {
-    text(rt, b"difference: ")?;
-    text(rt, words)?;
-    item(rt, b":", got)?;
-    item(rt, b", wanted", wanted)?;
-    text(rt, b"\n")
+fn print_difference(rt: &impl Print, words: &str, got: usize, wanted: usize) -> io::Result<()> {
+    println!(rt; "difference: {words}: {got}, wanted {wanted}")
 }
 
 // Whether a number is the one wanted.
-pub fn is_same(rt: &impl Print, words: &[u8], got: usize, wanted: usize) -> io::Result<bool>
+pub fn is_same(rt: &impl Print, words: &str, got: usize, wanted: usize) -> io::Result<bool>
     ensures ok { IfOk result (λ r. r ≡ eqb got wanted) }
     ensures err { OnErr result (got ≢ wanted) }
 {
@@ -37,13 +23,12 @@ pub fn is_same(rt: &impl Print, words: &[u8], got: usize, wanted: usize) -> io::
 }
 
 // Whether bytes are those wanted, and zero after them.
-pub fn holds(rt: &impl Print, words: &[u8], got: &[u8], wanted: &[u8]) -> io::Result<bool> {
+pub fn holds(rt: &impl Print, words: &str, got: &[u8], wanted: &[u8]) -> io::Result<bool> {
     let at = first_difference(got, wanted);
     if at == got.len() {
         return Ok(true);
     }
-    item(rt, b"at byte", at)?;
-    text(rt, b" ")?;
-    print_difference(rt, words, get_byte(got, at), get_byte(wanted, at))?;
+    print!(rt; "at byte {at} ")?;
+    print_difference(rt, words, get(got, at), get(wanted, at))?;
     Ok(false)
 }

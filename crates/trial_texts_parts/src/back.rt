@@ -2,74 +2,42 @@
 // pairs have a rule of kind 3, those joined by none one of kind 1, and those joined by all none.
 ghost use Rattle.std.specs.Prelude.{◌≡◌, length};
 
-use trial_parts::kept::{K, N, Q, T};
-use trial_parts::{
-    count, first, get, get_byte, plus, put, put_link, put_own, put_pair, put_rule, times,
-};
+use crate::joined::cell;
+use trial_parts::kept::{K, N, T};
+use trial_parts::{add_pair, add_rule, count, first, get, put, put_link, put_own, times};
 
 // The links, as they are.
 fn put_links(job: &[usize], back: &mut [usize]) {
     let k = get(job, K);
     put(back, K, k);
     put(back, N, get(job, N));
-    let mut l = 0;
-    while l < k {
+    for l in 0..k {
         put_link(back, l, first(job, l), count(job, l));
-        l += 1;
     }
 }
 
-// 1 where place i of link a and place j of link b are joined, else 0.
-fn joint(job: &[usize], table: &[u8], a: usize, b: usize, i: usize, j: usize) -> usize {
-    let u = plus(first(job, a), i);
-    get_byte(table, plus(times(u, get(job, N)), plus(first(job, b), j)))
+// Whether place i of link a and place j of link b are joined.
+fn is_joint(job: &[usize], table: &[u8], a: usize, b: usize, i: usize, j: usize) -> bool {
+    let u = first(job, a).wrapping_add(i);
+    let v = first(job, b).wrapping_add(j);
+    get(table, cell(job, u, v)) != 0
 }
 
-// Lists a pair of places.
-fn add_pair(back: &mut [usize], i: usize, j: usize) {
-    let t = get(back, T);
-    put_pair(back, t, i, j);
-    put(back, T, plus(t, 1));
-}
-
-// Lists the pairs of links a and b that are joined. Gives how many.
+// Lists the pairs of links a and b that are joined, in dictionary order. Gives how many.
 fn add_pairs(job: &[usize], table: &[u8], back: &mut [usize], a: usize, b: usize) -> usize {
-    let width = count(job, b);
-    let end = times(count(job, a), width);
-    let mut m = 0;
-    let mut x = 0;
-    while x < end {
-        m = plus(m, add_joined(job, table, back, a, b, x));
-        x += 1;
-    }
-    m
-}
-
-// Lists pair x of links a and b, in dictionary order, if it is joined. Gives how many.
-fn add_joined(
-    job: &[usize],
-    table: &[u8],
-    back: &mut [usize],
-    a: usize,
-    b: usize,
-    x: usize,
-) -> usize {
     let width = count(job, b);
     if width == 0 {
         return 0;
     }
-    if joint(job, table, a, b, x / width, x % width) == 0 {
-        return 0;
+    let mut m = 0;
+    for x in 0..times(count(job, a), width) {
+        let (i, j) = (x / width, x % width);
+        if is_joint(job, table, a, b, i, j) {
+            add_pair(back, i, j);
+            m += 1;
+        }
     }
-    add_pair(back, x / width, x % width);
-    1
-}
-
-// One more rule.
-fn add_rule(back: &mut [usize], a: usize, b: usize, kind: usize, m: usize, value: usize) {
-    let q = get(back, Q);
-    put_rule(back, q, a, b, kind, m, value);
-    put(back, Q, plus(q, 1));
+    m
 }
 
 // The rule of links a and b, if a < b. Where all are joined the pairs listed are taken back.
@@ -81,13 +49,11 @@ fn put_links_rule(job: &[usize], table: &[u8], back: &mut [usize], a: usize, b: 
     let m = add_pairs(job, table, back, a, b);
     if m == 0 {
         add_rule(back, a, b, 1, 0, 9999999);
-        return;
-    }
-    if m == times(count(job, a), count(job, b)) {
+    } else if m == times(count(job, a), count(job, b)) {
         put(back, T, from);
-        return;
+    } else {
+        add_rule(back, a, b, 3, m, from);
     }
-    add_rule(back, a, b, 3, m, from);
 }
 
 fn put_rules(job: &[usize], table: &[u8], back: &mut [usize]) {
@@ -95,11 +61,8 @@ fn put_rules(job: &[usize], table: &[u8], back: &mut [usize]) {
     if k == 0 {
         return;
     }
-    let end = times(k, k);
-    let mut p = 0;
-    while p < end {
+    for p in 0..times(k, k) {
         put_links_rule(job, table, back, p / k, p % k);
-        p += 1;
     }
 }
 

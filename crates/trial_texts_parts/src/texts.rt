@@ -3,50 +3,40 @@
 ghost use Rattle.std.specs.Prelude.{◌≡◌, length};
 
 use trial_parts::kept::K;
-use trial_parts::{count, get, get_byte, plus, put_byte};
+use trial_parts::{count, get, put};
 
 // The digit of a unit, unless it is a leading zero.
 fn put_digit(out: &mut [u8], at: usize, x: usize, unit: usize) -> usize {
-    if unit == 0 {
+    if unit == 0 || x < unit {
         return at;
     }
-    if x < unit {
-        return at;
-    }
-    put_byte(out, at, plus(48, x / unit % 10));
-    plus(at, 1)
-}
-
-fn put_high_digits(out: &mut [u8], at: usize, x: usize) -> usize {
-    let i = put_digit(out, at, x, 100000);
-    let j = put_digit(out, i, x, 10000);
-    put_digit(out, j, x, 1000)
+    put(out, at, x / unit % 10 + 48);
+    at.wrapping_add(1)
 }
 
 // A number below 1,000,000 and the byte after it.
-fn put_number(out: &mut [u8], at: usize, x: usize, end: usize) -> usize {
-    let i = put_high_digits(out, at, x);
-    let j = put_digit(out, i, x, 100);
-    let l = put_digit(out, j, x, 10);
-    put_byte(out, l, plus(48, x % 10));
-    put_byte(out, plus(l, 1), end);
-    plus(l, 2)
+fn put_number(out: &mut [u8], at: usize, x: usize, end: u8) -> usize {
+    let mut i = at;
+    for unit in [100000, 10000, 1000, 100, 10] {
+        i = put_digit(out, i, x, unit);
+    }
+    put(out, i, x % 10 + 48);
+    put(out, i.wrapping_add(1), usize::from(end));
+    i.wrapping_add(2)
 }
 
 fn put_words(out: &mut [u8], at: usize, words: &[u8]) -> usize {
-    let mut i = 0;
-    while i < words.len() {
-        put_byte(out, plus(at, i), get_byte(words, i));
-        i += 1;
+    for (i, b) in words.iter().enumerate() {
+        put(out, at.wrapping_add(i), usize::from(*b));
     }
-    plus(at, words.len())
+    at.wrapping_add(words.len())
 }
 
 // A line of a word and two numbers.
 fn put_line(out: &mut [u8], at: usize, words: &[u8], a: usize, b: usize) -> usize {
     let i = put_words(out, at, words);
-    let j = put_number(out, i, a, 32);
-    put_number(out, j, b, 10)
+    let j = put_number(out, i, a, b' ');
+    put_number(out, j, b, b'\n')
 }
 
 // `p edge n m`.
@@ -60,29 +50,20 @@ pub fn put_head(out: &mut [u8], n: usize, m: usize) -> usize
 pub fn put_count(out: &mut [u8], at: usize, x: usize) -> usize
     ensures { length out.new ≡ length out.old }
 {
-    put_number(out, at, x, 10)
+    put_number(out, at, x, b'\n')
 }
 
 // The number of edges.
 fn edges(table: &[u8]) -> usize {
-    let mut m = 0;
-    let mut i = 0;
-    while i < table.len() {
-        m = plus(m, get_byte(table, i));
-        i += 1;
-    }
-    m
+    table.iter().filter(|cell| **cell != 0).count()
 }
 
-// The line `e u v` of place p of the table, if that is an edge.
-fn put_edge(table: &[u8], n: usize, out: &mut [u8], at: usize, p: usize) -> usize {
+// The line `e u v` of place p of the table.
+fn put_edge(n: usize, out: &mut [u8], at: usize, p: usize) -> usize {
     if n == 0 {
         return at;
     }
-    if get_byte(table, p) == 0 {
-        return at;
-    }
-    put_line(out, at, b"e ", plus(p / n, 1), plus(p % n, 1))
+    put_line(out, at, b"e ", (p / n).wrapping_add(1), p % n + 1)
 }
 
 // The graph text of a table of n vertices. Gives its length.
@@ -90,10 +71,10 @@ pub fn put_graph_text(table: &[u8], n: usize, out: &mut [u8]) -> usize
     ensures { length out.new ≡ length out.old }
 {
     let mut at = put_head(out, n, edges(table));
-    let mut p = 0;
-    while p < table.len() {
-        at = put_edge(table, n, out, at, p);
-        p += 1;
+    for (p, cell) in table.iter().enumerate() {
+        if *cell != 0 {
+            at = put_edge(n, out, at, p);
+        }
     }
     at
 }
@@ -102,12 +83,9 @@ pub fn put_graph_text(table: &[u8], n: usize, out: &mut [u8]) -> usize
 pub fn put_count_text(job: &[usize], out: &mut [u8]) -> usize
     ensures { length out.new ≡ length out.old }
 {
-    let k = get(job, K);
     let mut at = 0;
-    let mut l = 0;
-    while l < k {
+    for l in 0..get(job, K) {
         at = put_count(out, at, count(job, l));
-        l += 1;
     }
     at
 }

@@ -1,12 +1,12 @@
 // A job's sheet exported, and the two texts imported again.
-ghost use Rattle.std.specs.Prelude.{◌≡◌, length};
+ghost use Rattle.std.specs.Prelude.{◌≡◌, ◌≤◌, length};
 
 use std::io;
 use trial_job::make_job;
 use trial_parts::kept::{N, SEED};
 use trial_parts::{SKIP, encode, first_bytes, get, put};
 use trial_texts_back::{CAUSE, comes_back};
-use trial_texts_calls::{exports_all, is_same};
+use trial_texts_calls::{Texts, exports_all, is_same};
 use trial_texts_parts::{first_difference, put_count_text, put_graph_text, put_head, put_joined};
 
 // The place of the edges that a row names.
@@ -23,111 +23,43 @@ fn has_edges(rt: &impl Print, kept: &[usize], text: &[u8]) -> io::Result<bool> {
     let at = first_difference(first_bytes(text, length), &head);
     is_same(
         rt,
-        b"place of another digit in the number of edges",
+        "place of another digit in the number of edges",
         at,
         length,
     )
 }
 
-// There by the texts of the job's graph, and back.
-fn there_and_back(
+// There by the texts of the job's graph, and back, with room for a table and texts of so many bytes.
+fn there_and_back<const TABLE: usize, const TEXT: usize, const SIZES: usize>(
     rt: &impl Print,
     kept: &mut [usize],
     sheet: &[u8],
-    table: &[u8],
-    text: &[u8],
-    sizes: &[u8],
-    graph: &mut [u8],
-    counts: &mut [u8],
-) -> io::Result<bool> {
-    if !has_edges(rt, kept, text)? {
-        return Ok(false);
-    }
-    if !exports_all(rt, kept, sheet, graph, counts, text, sizes)? {
-        return Ok(false);
-    }
-    comes_back(rt, kept, sheet, table, text, sizes, graph, counts)
-}
-
-// The same, with room for the table, for the texts wanted and for those written.
-fn there_in(
-    rt: &impl Print,
-    kept: &mut [usize],
-    sheet: &[u8],
-    table: &mut [u8],
-    text: &mut [u8],
-    sizes: &mut [u8],
-    graph: &mut [u8],
-    counts: &mut [u8],
-) -> io::Result<bool> {
-    put_joined(kept, table);
-    let g = put_graph_text(table, get(kept, N), text);
-    let c = put_count_text(kept, sizes);
-    there_and_back(
-        rt,
-        kept,
-        sheet,
-        table,
-        first_bytes(text, g),
-        first_bytes(sizes, c),
-        graph,
-        counts,
+) -> io::Result<bool>
+    requires table_fits { TABLE ≤ 1048576 }
+    requires text_fits { TEXT ≤ 1300000 }
+    requires sizes_fit { SIZES ≤ 512 }
+{
+    let mut table = [0u8; TABLE];
+    let mut text = [0u8; TEXT];
+    let mut sizes = [0u8; SIZES];
+    let mut graph = [0u8; TEXT];
+    let mut counts = [0u8; SIZES];
+    put_joined(kept, &mut table);
+    let g = put_graph_text(&table, get(kept, N), &mut text);
+    let c = put_count_text(kept, &mut sizes);
+    let texts = Texts {
+        graph: first_bytes(&text, g),
+        counts: first_bytes(&sizes, c),
+    };
+    Ok(
+        has_edges(rt, kept, texts.graph)?
+            && exports_all(rt, kept, sheet, &mut graph, &mut counts, texts)?
+            && comes_back(rt, kept, sheet, &table, texts, &mut graph, &mut counts)?,
     )
 }
 
-// The same in arrays. The largest texts of forms 1 and 2 have 1,235,834 and 177 bytes.
-fn there_wide(
-    rt: &impl Print,
-    kept: &mut [usize],
-    sheet: &[u8],
-    table: &mut [u8; 1048576],
-    text: &mut [u8; 1300000],
-    sizes: &mut [u8; 512],
-    graph: &mut [u8; 1300000],
-    counts: &mut [u8; 512],
-) -> io::Result<bool> {
-    there_in(rt, kept, sheet, table, text, sizes, graph, counts)
-}
-
-// The room of any sheet.
-fn there_large(rt: &impl Print, kept: &mut [usize], sheet: &[u8]) -> io::Result<bool> {
-    let mut table = [0u8; 1048576];
-    let mut text = [0u8; 1300000];
-    let mut sizes = [0u8; 512];
-    let mut graph = [0u8; 1300000];
-    let mut counts = [0u8; 512];
-    there_wide(
-        rt,
-        kept,
-        sheet,
-        &mut table,
-        &mut text,
-        &mut sizes,
-        &mut graph,
-        &mut counts,
-    )
-}
-
-// The room of a small sheet, of up to 20 vertices.
-fn there_small(rt: &impl Print, kept: &mut [usize], sheet: &[u8]) -> io::Result<bool> {
-    let mut table = [0u8; 400];
-    let mut text = [0u8; 2048];
-    let mut sizes = [0u8; 32];
-    let mut graph = [0u8; 2048];
-    let mut counts = [0u8; 32];
-    there_in(
-        rt,
-        kept,
-        sheet,
-        &mut table,
-        &mut text,
-        &mut sizes,
-        &mut graph,
-        &mut counts,
-    )
-}
-
-// A job's sheet, with its edges and the number of the import; `SKIP` for any.
+// A job's sheet, with its edges and the number of the import; `SKIP` for any. The room is that of any sheet: the largest
+// texts of forms 1 and 2 have 1,235,834 and 177 bytes.
 pub fn comes_there(
     rt: &impl Print,
     kept: &mut [usize],
@@ -139,15 +71,15 @@ pub fn comes_there(
 {
     put(kept, EDGES, edges);
     put(kept, CAUSE, number);
-    there_large(rt, kept, sheet)
+    there_and_back::<1048576, 1300000, 512>(rt, kept, sheet)
 }
 
-// One job of the pseudo-random sequence.
+// One job of the pseudo-random sequence, with the room of a sheet of up to 20 vertices.
 fn small_sheet(rt: &impl Print, kept: &mut [usize]) -> io::Result<bool> {
     let mut sheet = [0u8; 1200];
     make_job(kept);
     let length = encode(kept, &mut sheet);
-    there_small(rt, kept, first_bytes(&sheet, length))
+    there_and_back::<400, 2048, 32>(rt, kept, first_bytes(&sheet, length))
 }
 
 // So many small sheets, up to a difference.
@@ -157,12 +89,10 @@ pub fn small_sheets(rt: &impl Print, kept: &mut [usize], m: usize) -> io::Result
     put(kept, EDGES, SKIP);
     put(kept, CAUSE, SKIP);
     put(kept, SEED, 1);
-    let mut i = 0;
-    while i < m {
+    for _ in 0..m {
         if !small_sheet(rt, kept)? {
             return Ok(false);
         }
-        i += 1;
     }
     Ok(true)
 }

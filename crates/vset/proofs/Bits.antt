@@ -1,14 +1,8 @@
 -- Laws of a word's bits.
-use Prim.Native.Nat.{ℕ, zero, suc, ◌+◌, ◌-◌, ◌/◌, ◌%◌, ◌^◌, ◌≤◌, ◌<◌, min, max}
-use mathlib.Core.Bool.{true, false, not, ◌&&◌, ◌||◌}
-use mathlib.Core.Path.{◌≡◌, refl, sym, ap, ◌∙◌}
-use mathlib.Core.Logic.{◌⊎◌, inl, inr}
-use native.Mathlib.Nat.{zero-div, pow-suc, div-one, div-eq_of_lt, lt_of_lt_of_le}
-use native.Mathlib.Numerals.{one-add}
-use native.Mathlib.Omega.{arith}
-use lib.Dec.{eqb, eqb-suc-zero, eqb-zero-suc, eqb-suc-suc}
+use Rattle.std.proofs.Common.{ℕ, zero, suc, ◌+◌, ◌-◌, ◌/◌, ◌%◌, ◌^◌, ◌≤◌, ◌<◌, min, max, true, false, not, ◌&&◌, ◌||◌, ◌≡◌, refl, sym, ap, ◌∙◌, ◌⊎◌, inl, inr, pow-suc, div-one, lt_of_lt_of_le, one-add, arith, eqb, shr-shr, pow_pos, pow_mono}
+use native.Mathlib.Nat.{zero-div, div-eq_of_lt}
+use lib.Dec.{eqb-suc-zero, eqb-zero-suc, eqb-suc-suc}
 use lib.Count.{count_trailing_zeros, trailing_le}
-use lib.Pow.{shr-shr, pow_pos, pow_mono}
 use lib.Bits.{bit_and, bit_or, and_step, or_step, and_shr, or_shr}
 use Rattle.vset.specs.Words.{bit}
 

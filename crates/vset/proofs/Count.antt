@@ -1,11 +1,5 @@
 -- How many members a set has: word by word, and member by member.
-use Prim.Native.Nat.{ℕ, zero, suc, ◌+◌, ◌-◌, ◌*◌, ◌/◌, ◌%◌, ◌^◌, ◌≤◌, ◌<◌}
-use mathlib.Core.Bool.{true}
-use mathlib.Core.Logic.{◌⊎◌, inl, inr}
-use mathlib.Core.Path.{◌≡◌, sym, ap, ◌∙◌}
-use native.Mathlib.Nat.{pow-suc}
-use native.Mathlib.Numerals.{one-add, add-one}
-use native.Mathlib.Omega.{arith}
+use Rattle.std.proofs.Common.{ℕ, zero, suc, ◌+◌, ◌-◌, ◌*◌, ◌/◌, ◌%◌, ◌^◌, ◌≤◌, ◌<◌, true, ◌⊎◌, inl, inr, ◌≡◌, sym, ap, ◌∙◌, pow-suc, one-add, add-one, arith}
 use lib.Arith.{lt-one}
 use lib.Count.{ones, ones_step}
 use Rattle.sets.specs.Below.{count}

@@ -1,12 +1,8 @@
 -- Where a set has a member: in a word, from a vertex on, or nowhere.
-use Prim.Native.Nat.{ℕ, ◌+◌, ◌-◌, ◌*◌, ◌/◌, ◌^◌, ◌≤◌, ◌<◌}
-use mathlib.Core.Bool.{true, false, true≢false}
-use mathlib.Core.Path.{◌≡◌, sym, ap, ◌∙◌}
-use native.Mathlib.Nat.{add_assoc, add-zero, div-one, lt_of_le_of_lt}
+use Rattle.std.proofs.Common.{ℕ, ◌+◌, ◌-◌, ◌*◌, ◌/◌, ◌^◌, ◌≤◌, ◌<◌, true, false, true≢false, ◌≡◌, sym, ap, ◌∙◌, add_assoc, add-zero, div-one, lt_of_le_of_lt, arith}
 use native.Mathlib.Decide.{dec_lt}
-use native.Mathlib.Omega.{arith}
 use lib.Count.{count_trailing_zeros}
-use lib.Pow.{shr_le}
+use Rattle.std.proofs.Math.Pow.{shr_le}
 use Rattle.sets.specs.Sets.{Set}
 use Rattle.vset.specs.Words.{bit, None, Least}
 use Rattle.vset.proofs.Bits.{bit_none, bit_shr, bit_high, trailing_below, trailing_at, trailing_lt}
@@ -94,3 +90,7 @@ least_from {S} {here} {n} {r} from l h L = record {
   none = none_join S from here r h L.none;
   found = L.found;
 }
+
+-- nothing from `from` to n, which is then what is found
+pub least_none : {S : Set} {from n : ℕ} → from ≤ n → None S from n → Least S from n n
+least_none l h = record { after = l; within = omega arith; none = h; found = λ m. absurd (omega arith) }

@@ -1,20 +1,14 @@
 -- Laws of the set that a row of words keeps. `Word S i x` says that the word x keeps part i of S, the vertices from 64
 -- * i to 64 * i + 63, whatever row or operation x comes from, and every law below goes through it.
-use Prim.Native.Nat.{ℕ, ◌+◌, ◌-◌, ◌*◌, ◌/◌, ◌%◌, ◌^◌, ◌≤◌, ◌<◌}
-use mathlib.Core.Bool.{false}
-use mathlib.Core.List.{List}
-use mathlib.Core.Path.{◌≡◌, refl, sym, ap, ◌∙◌, fun_ext}
-use native.Mathlib.Nat.{one-mul}
+use Rattle.std.proofs.Common.{ℕ, ◌+◌, ◌-◌, ◌*◌, ◌/◌, ◌%◌, ◌^◌, ◌≤◌, ◌<◌, false, List, ◌≡◌, refl, sym, ap, ◌∙◌, one-mul, arith, eq-eqb, ne_eqb, eqb, shl_exact, length, get_or, set, get_or-set_same, get_or-set_other}
+use mathlib.Core.Path.{fun_ext}
 use native.Mathlib.Decide.{ℕ_discrete, dec_lt}
-use native.Mathlib.Omega.{arith}
-use borrow.Author.Tests.{eq-eqb, ne_eqb}
-use lib.Dec.{eqb}
-use lib.Pow.{shl_exact, pow-lt}
+use Rattle.std.proofs.Math.Pow.{pow-lt}
 use lib.Bits.{bit_and, bit_or}
-use lib.ListN.{length, get_or, set, get_or-eq_default}
-use lib.Seq.{get_or-set_same, get_or-set_other}
+use Rattle.std.proofs.Math.ListN.{get_or-eq_default}
 use Rattle.sets.specs.Sets.{Set, ◌∩◌, ◌∪◌, ◌∖◌, just, nothing}
 use Rattle.vset.specs.Words.{bit, has}
+pub use Rattle.vset.specs.Words.{Word}
 use Rattle.vset.proofs.Bits.{bit_none, bit_of_and, bit_of_or, bit_not, bit_one}
 
 -- a set has no member from n on
@@ -46,10 +40,7 @@ module _ {S : Set} {n : ℕ} (p : Ends S n) where
   unfolding ◌∪◌
   ends_join q = record { past = λ v h. rw (p.past v h, q.past v h) }
 
--- the word x keeps part i of S
-
-pub record Word (S : Set) (i x : ℕ) : Type 0 where
-  pub at : (k : ℕ) → k < 64 → S (64 * i + k) ≡ bit x k
+-- which part of a set a word keeps
 
 pub word_has : (ws : List ℕ) (i : ℕ) → Word (has ws) i (get_or ws i 0)
 unfolding has
@@ -79,6 +70,10 @@ module _ {S T : Set} {i x y : ℕ} (p : Word S i x) (q : Word T i y) where
   pub word_cut : y < 2 ^ 64 → Word (S ∖ T) i (bit_and x (2 ^ 64 - 1 - y))
   unfolding ◌∖◌
   word_cut b = record { at = λ k h. rw (p.at k h, q.at k h, bit_of_and, bit_not 64 y k b h) }
+
+-- what two rows have in common
+pub common : (a b : List ℕ) (i : ℕ) → Word (has a ∩ has b) i (bit_and (get_or a i 0) (get_or b i 0))
+common a b i = word_meet (word_has a i) (word_has b i)
 
 pub word_nothing : (i : ℕ) → Word nothing i 0
 unfolding nothing

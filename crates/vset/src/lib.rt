@@ -3,10 +3,10 @@
 // The contracts cite `has` of specs/Words.antt, the set that a row keeps, and the set operations of the crate `sets`.
 #![tactic(auto)]
 
-ghost use Rattle.std.specs.Prelude.{◌≡◌, ◌*◌, ◌^◌, ◌<◌, ◌≤◌, length};
+ghost use Rattle.std.specs.Prelude.{◌≡◌, ℕ, ◌*◌, ◌^◌, ◌<◌, ◌≤◌, length};
 ghost use Rattle.sets.specs.Below.{count};
-ghost use Rattle.sets.specs.Sets.{◌∩◌, ◌∪◌, ◌∖◌, just};
-ghost use Rattle.vset.specs.Words.{has, Least, Emptiness};
+ghost use Rattle.sets.specs.Sets.{Set, ◌∩◌, ◌∪◌, ◌∖◌, just};
+ghost use Rattle.vset.specs.Words.{has, Kept, Least, Emptiness};
 
 // Whether v is in the set.
 pub fn contains(row: &[u64], v: usize) -> bool
@@ -25,7 +25,7 @@ pub fn insert(row: &mut [u64], v: usize)
 {
     let i = v / 64;
     let k = v % 64;
-    row[i] = row[i] | (1u64 << k);
+    row[i] |= 1 << k;
 }
 
 // Takes v out of the set.
@@ -35,21 +35,28 @@ pub fn remove(row: &mut [u64], v: usize)
 {
     let i = v / 64;
     let k = v % 64;
-    row[i] = row[i] & !(1u64 << k);
+    row[i] &= !(1 << k);
 }
 
-// How many members the set has: "count_ones over a row's words gives the degree".
+// How many members a set has whose n words `word` gives: "count_ones over a row's words gives the degree".
+fn size_by<F: Fn(usize) -> u64>(n: usize, word: F) -> usize
+    requires n_bound { 64 * n < 2 ^ 64 }
+    requires callable { (i : ℕ) → i < n → F.pre word i }
+    ensures { (S : Set) → Kept S n (F.post word) → result ≡ count (64 * n) S }
+{
+    let mut members = 0;
+    for i in 0..n {
+        members += word(i).count_ones() as usize;
+    }
+    members
+}
+
+// How many members the set has.
 pub fn size(row: &[u64]) -> usize
     requires { 64 * length row.now < 2 ^ 64 }
     ensures { result ≡ count (64 * length row.now) (has row.now) }
 {
-    let mut n: usize = 0;
-    let mut i = 0;
-    while i < row.len() {
-        n += u64::count_ones(row[i]) as usize;
-        i += 1;
-    }
-    n
+    size_by(row.len(), |i| row[i])
 }
 
 // How many vertices are in both sets.
@@ -58,68 +65,51 @@ pub fn size_common(a: &[u64], b: &[u64]) -> usize
     requires a_bound { 64 * length a.now < 2 ^ 64 }
     ensures { result ≡ count (64 * length a.now) (has a.now ∩ has b.now) }
 {
-    let mut n: usize = 0;
-    let mut i = 0;
-    while i < a.len() {
-        n += u64::count_ones(a[i] & b[i]) as usize;
-        i += 1;
-    }
-    n
+    size_by(a.len(), |i| a[i] & b[i])
 }
 
-// The least member from `from` on, or 64 times the number of words where there is none:
-// "trailing zeros give the next vertex".
+// The least member from `from` on of a set whose n words `word` gives, or 64 * n where there is none: "trailing zeros
+// give the next vertex".
+fn next_by<F: Fn(usize) -> u64>(n: usize, from: usize, word: F) -> usize
+    requires n_bound { 64 * n < 2 ^ 64 }
+    requires from_bound { from ≤ 64 * n }
+    requires callable { (i : ℕ) → i < n → F.pre word i }
+    ensures { (S : Set) → Kept S n (F.post word) → Least S from (64 * n) result }
+{
+    let at = from / 64;
+    if at >= n {
+        return from;
+    }
+    let first = word(at) >> (from % 64);
+    if first != 0 {
+        return from + first.trailing_zeros() as usize;
+    }
+    for i in at + 1..n {
+        let w = word(i);
+        if w != 0 {
+            return 64 * i + w.trailing_zeros() as usize;
+        }
+    }
+    64 * n
+}
+
+// The least member from `from` on, or 64 times the number of words where there is none.
 pub fn next_member(row: &[u64], from: usize) -> usize
     requires row_bound { 64 * length row.now < 2 ^ 64 }
     requires from_bound { from ≤ 64 * length row.now }
     ensures { Least (has row.now) from (64 * length row.now) result }
 {
-    let mut i = from / 64;
-    if i >= row.len() {
-        return from;
-    }
-    let k = from % 64;
-    let first = row[i] >> k;
-    if first != 0 {
-        return from + u64::trailing_zeros(first) as usize;
-    }
-    i += 1;
-    while i < row.len() {
-        let w = row[i];
-        if w != 0 {
-            return 64 * i + u64::trailing_zeros(w) as usize;
-        }
-        i += 1;
-    }
-    64 * i
+    next_by(row.len(), from, |i| row[i])
 }
 
-// The least vertex from `from` on that is in both sets, or 64 times the number of words where there is none:
-// "trailing zeros give the next vertex".
+// The least vertex from `from` on that is in both sets, or 64 times the number of words where there is none.
 pub fn next_common(a: &[u64], b: &[u64], from: usize) -> usize
     requires a_len { length a.now ≡ length b.now }
     requires a_bound { 64 * length a.now < 2 ^ 64 }
     requires from_bound { from ≤ 64 * length a.now }
     ensures { Least (has a.now ∩ has b.now) from (64 * length a.now) result }
 {
-    let mut i = from / 64;
-    if i >= a.len() {
-        return from;
-    }
-    let k = from % 64;
-    let first = (a[i] & b[i]) >> k;
-    if first != 0 {
-        return from + u64::trailing_zeros(first) as usize;
-    }
-    i += 1;
-    while i < a.len() {
-        let w = a[i] & b[i];
-        if w != 0 {
-            return 64 * i + u64::trailing_zeros(w) as usize;
-        }
-        i += 1;
-    }
-    64 * i
+    next_by(a.len(), from, |i| a[i] & b[i])
 }
 
 // Whether no vertex is in both sets.
@@ -127,12 +117,10 @@ pub fn is_empty_common(a: &[u64], b: &[u64]) -> bool
     requires { length a.now ≡ length b.now }
     ensures { Emptiness (has a.now ∩ has b.now) result }
 {
-    let mut i = 0;
-    while i < a.len() {
+    for i in 0..a.len() {
         if a[i] & b[i] != 0 {
             return false;
         }
-        i += 1;
     }
     true
 }

@@ -1,9 +1,6 @@
 -- The rows of a form's vertices and of twice its classes leave room in its words for a row for each depth, and for the
 -- builder of the greedy classes.
-use mathlib.Core.Logic.{◌⊎◌, inl, inr}
-use Prim.Native.Nat.{ℕ, ◌+◌, ◌*◌, ◌/◌, ◌≤◌}
-use native.Mathlib.Nat.{le_trans, mul-le-mul_left, mul-le-mul_right}
-use native.Mathlib.Omega.{arith}
+use Rattle.std.proofs.Common.{◌⊎◌, inl, inr, ℕ, ◌+◌, ◌*◌, ◌/◌, ◌≤◌, le_trans, mul-le-mul_left, mul-le-mul_right, arith}
 use Rattle.sheet_rows.specs.Form.{form_by, hall_links, hall_freqs, hall_words, most_links, most_freqs, most_words}
 use Rattle.sheet_rows.proofs.Rows.{Sizes, form_sizes}
 use Rattle.work_words.specs.Layout.{WithinForm}

@@ -1,12 +1,5 @@
 -- The class list of an accepted job is a partition under each choice.
-use mathlib.Core.Path.{◌≡◌, refl}
-use mathlib.Core.Bool.{true, false, not}
-use mathlib.Core.List.{List}
-use mathlib.Core.Logic.{◌⊎◌, inl, inr}
-use Prim.Native.Nat.{ℕ, ◌≤◌, ◌<◌}
-use native.Mathlib.Omega.{arith}
-use lib.Dec.{eqb}
-use borrow.Author.Tests.{eq-eqb}
+use Rattle.std.proofs.Common.{◌≡◌, refl, true, false, not, List, ◌⊎◌, inl, inr, ℕ, ◌≤◌, ◌<◌, arith, eqb, eq-eqb}
 use Rattle.sets.proofs.Tests.{clash, is_false, not_out, or_case}
 use Rattle.sheet.specs.Sheet.{k_of, n_of}
 use Rattle.sheet.specs.Accepted.{Accepted}

@@ -1,9 +1,5 @@
 -- The masks, cut to the root row.
-use mathlib.Core.Path.{◌≡◌, refl, sym, ap, ◌∙◌}
-use mathlib.Core.Bool.{Bool}
-use mathlib.Core.List.{List}
-use Prim.Native.Nat.{ℕ, ◌+◌, ◌*◌, ◌≤◌, ◌<◌}
-use native.Mathlib.Omega.{arith}
+use Rattle.std.proofs.Common.{◌≡◌, refl, sym, ap, ◌∙◌, Bool, List, ℕ, ◌+◌, ◌*◌, ◌≤◌, ◌<◌, arith}
 use Rattle.sets.specs.Sets.{Set, ◌∩◌}
 use Rattle.rows.specs.Rows.{set_at, row_at, Put}
 use Rattle.rows.proofs.Rows.{above, below}

@@ -1,13 +1,5 @@
 -- From the rows and masks that are written to the graph that the words hold.
-use mathlib.Core.Path.{◌≡◌, refl, sym, ap, subst, ◌∙◌}
-use mathlib.Core.Bool.{Bool, true, false, not, cond, ◌&&◌}
-use mathlib.Core.List.{List}
-use mathlib.Core.Logic.{◌⊎◌, inl, inr}
-use Prim.Native.Nat.{ℕ, ◌+◌, ◌*◌, ◌≤◌, ◌<◌}
-use native.Mathlib.Omega.{arith}
-use lib.Dec.{eqb, ltb}
-use lib.ListN.{length}
-use borrow.Author.Tests.{eq-eqb, ne_eqb, lt-ltb, not-true, not-false}
+use Rattle.std.proofs.Common.{◌≡◌, refl, sym, ap, subst, ◌∙◌, Bool, true, false, not, cond, ◌&&◌, List, ◌⊎◌, inl, inr, ℕ, ◌+◌, ◌*◌, ◌≤◌, ◌<◌, arith, eqb, ltb, length, eq-eqb, ne_eqb, lt-ltb}
 use Rattle.sets.specs.Sets.{Set, ◌∩◌}
 use Rattle.sets.proofs.Tests.{bool, clash, iff, and_l, and_in, and_r, and_false, not_out, or_case}
 use Rattle.sets.proofs.Lists.{get_d_tabulate}
@@ -133,8 +125,8 @@ module _ (job : Job) (A : Accepted job.sheet) where
     list_test = C.answer (edge job) (rows_hold w graph p R.rows)
 
     -- a caller's list that may be used has n entries
-    long : not r ≡ false → x.choice ≡ 2 → length x.callers ≡ n_of s
-    long e two = go (or_case (not (eqb x.choice 2)) _ (unfold list_ok in sym list_test ∙ not-false r e))
+    long : r ≡ true → x.choice ≡ 2 → length x.callers ≡ n_of s
+    long e two = go (or_case (not (eqb x.choice 2)) _ (unfold list_ok in sym list_test ∙ e))
       where
         go : (not (eqb x.choice 2) ≡ true) ⊎ (is_partition (n_of s) (k_of s) (edge job) x.callers ≡ true)
             → length x.callers ≡ n_of s
@@ -142,16 +134,16 @@ module _ (job : Job) (A : Accepted job.sheet) where
         go (inr y) = (partition_out (n_of s) (k_of s) (edge job) x.callers y).size
 
     -- the caller's list is no partition
-    refused : not r ≡ true → Filled job x (placed w masks graph (n_of s) (k_of s)) layers p₁ false
+    refused : r ≡ false → Filled job x (placed w masks graph (n_of s) (k_of s)) layers p₁ false
     refused e = record {
-      list = sym (not-true r e) ∙ list_test;
+      list = sym e ∙ list_test;
       by_class_is = λ h. clash false h refl;
       by_layer_is = λ h. clash false h refl;
       root = λ h. clash false h refl;
     }
 
     -- the words are filled
-    module _ {p₂ p₃ p₄ cls' : List ℕ} (small : x.choice ≤ 2) (e : not r ≡ false)
+    module _ {p₂ p₃ p₄ cls' : List ℕ} (small : x.choice ≤ 2) (e : r ≡ true)
         (B : ListBuilt x.choice (placed w masks graph (n_of s) (k_of s)) p₁ p₂ cls cls')
         (M : Masks (n_of s) (k_of s) (class_list x.choice x.callers cls' (n_of s)) w masks p₂ p₃)
         (T : MasksCut job (placed w masks graph (n_of s) (k_of s)) layers p₃ p₄) where
@@ -195,9 +187,9 @@ module _ (job : Job) (A : Accepted job.sheet) where
 
       filled : Filled job x (placed w masks graph (n_of s) (k_of s)) layers p₄ true
       filled = record {
-        list = sym (not-false r e) ∙ list_test;
+        list = sym e ∙ list_test;
         by_class_is = λ h. by_class_is w masks graph p₄ rows_end T.root (classes_of job x)
-            (classes_ok job A x small (sym list_test ∙ not-false r e)) masks_end;
+            (classes_ok job A x small (sym list_test ∙ e)) masks_end;
         by_layer_is = λ h. by_layer_is w layers graph p₄ rows_end T.root layers_end;
         root = λ h. T.root;
       }
@@ -216,30 +208,30 @@ module _ {job : Job} {place : Place} {layers len list : ℕ} (P : Placed job pla
   at_place Q q = subst Q (sym same_place) q
 
   pub callers_long : {p p₁ cls : List ℕ} {r : Bool} → RowsPut job place layers p cls
-      → ListChecked x.choice place x.callers p p₁ r → not r ≡ false
+      → ListChecked x.choice place x.callers p p₁ r → r ≡ true
       → x.choice ≡ 2 → length x.callers ≡ place.n
   callers_long {p} {p₁} {cls} {r} = at_place
       (λ q. LaidOut q layers len → RowsPut job q layers p cls → ListChecked x.choice q x.callers p p₁ r
-      → not r ≡ false
+      → r ≡ true
       → x.choice ≡ 2 → length x.callers ≡ q.n)
       (λ O R C. long job P.accepted x place.w place.masks place.graph layers len O R C) P.laid
 
   pub list_refused : {p p₁ cls : List ℕ} {r : Bool} → RowsPut job place layers p cls
-      → ListChecked x.choice place x.callers p p₁ r → not r ≡ true
+      → ListChecked x.choice place x.callers p p₁ r → r ≡ false
       → Filled job x place layers p₁ false
   list_refused {p} {p₁} {cls} {r} = at_place
       (λ q. LaidOut q layers len → RowsPut job q layers p cls → ListChecked x.choice q x.callers p p₁ r
-      → not r ≡ true
+      → r ≡ false
       → Filled job x q layers p₁ false)
       (λ O R C. refused job P.accepted x place.w place.masks place.graph layers len O R C) P.laid
 
   pub words_filled : {p p₁ p₂ p₃ p₄ cls cls' : List ℕ} {r : Bool} → x.choice ≤ 2 → RowsPut job place layers p cls
-      → ListChecked x.choice place x.callers p p₁ r → not r ≡ false → ListBuilt x.choice place p₁ p₂ cls cls'
+      → ListChecked x.choice place x.callers p p₁ r → r ≡ true → ListBuilt x.choice place p₁ p₂ cls cls'
       → Masks place.n place.k (class_list x.choice x.callers cls' place.n) place.w place.masks p₂ p₃
       → MasksCut job place layers p₃ p₄ → Filled job x place layers p₄ true
   words_filled {p} {p₁} {p₂} {p₃} {p₄} {cls} {cls'} {r} small = at_place
       (λ q. LaidOut q layers len → RowsPut job q layers p cls → ListChecked x.choice q x.callers p p₁ r
-      → not r ≡ false
+      → r ≡ true
       → ListBuilt x.choice q p₁ p₂ cls cls'
       → Masks q.n q.k (class_list x.choice x.callers cls' q.n) q.w q.masks p₂ p₃
       → MasksCut job q layers p₃ p₄ → Filled job x q layers p₄ true)

@@ -1,12 +1,5 @@
 -- The class list that is handed on has a class for each vertex.
-use mathlib.Core.Path.{◌≡◌}
-use mathlib.Core.List.{List}
-use Prim.Native.Nat.{ℕ, ◌≤◌}
-use native.Mathlib.Omega.{arith}
-use lib.Dec.{eqb}
-use lib.ListN.{length, take}
-use lib.Seq.{length-take-le}
-use borrow.Author.Tests.{eqb-true}
+use Rattle.std.proofs.Common.{◌≡◌, List, ℕ, ◌≤◌, arith, eqb, length, length-take-le, eqb-true}
 use Rattle.sets.proofs.Tests.{bool}
 use Rattle.partition.specs.Choice.{class_list}
 

@@ -44,7 +44,7 @@ fn put_rows(
     build_graph(work, place, sheet);
     put_unstruck(work, place.w, sheet, channels);
     strike_graph(work, place, sheet, channels);
-    put_layers(sheet, place.n, place.k, built);
+    put_layers(sheet, place.k, built);
     put_masks(work, place, layers, built);
 }
 
@@ -54,10 +54,7 @@ fn check_list(choice: u32, classes: &[u8], place: Place, work: &mut [u64]) -> bo
         × (place.graph + place.n * place.w ≤ length work.old) × (place.n ≤ 64 * place.w) }
     ensures { ListChecked choice place classes.now work.old work.new result }
 {
-    if choice != 2 {
-        return true;
-    }
-    is_partition(work, place, classes)
+    choice != 2 || is_partition(work, place, classes)
 }
 
 // The classes of choice 1, where the layers stand.
@@ -66,10 +63,9 @@ fn build_list(choice: u32, place: Place, built: &mut [u8], work: &mut [u64])
     ensures { ListBuilt choice place work.old work.new built.old
         built.new }
 {
-    if choice != 1 {
-        return;
+    if choice == 1 {
+        build_classes(work, place, built);
     }
-    build_classes(work, place, built);
 }
 
 // The masks of the class list, which is part of either the caller's list or the built one.
@@ -117,6 +113,7 @@ pub fn fill_words(
     ensures { Filled (job_with sheet.now channels.now)
         (setting_of options classes.now) place layers work.new result }
 {
+    // a number, as the caller's setting has it
     let choice = options.choice;
     put_rows(sheet, channels, place, layers, built, work);
     if !check_list(choice, classes, place, work) {

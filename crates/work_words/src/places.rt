@@ -9,7 +9,7 @@ pub fn lay_out(len: usize, n: usize, k: usize) -> Layout
     requires { WithinForm n k len }
     ensures { LaidOut (placed result.w result.masks result.graph n k) result.layers len }
 {
-    let w = (n + 63) / 64;
+    let w = n.div_ceil(64);
     let rows = n * w;
     let class_rows = k * w;
     let graph = len - rows;

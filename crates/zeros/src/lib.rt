@@ -3,35 +3,68 @@
 // The contracts cite `zeros` of specs/Zeros.antt.
 #![tactic(auto)]
 
-ghost use Rattle.std.specs.Prelude.{◌≡◌, length};
-ghost use Rattle.zeros.specs.Zeros.{zeros};
+ghost use Rattle.std.specs.Prelude.{◌≡◌, ℕ, List, length, replicate};
+ghost use Rattle.zeros.specs.Zeros.{zeros, zeros_are};
 
-pub fn zero_cells(cells: &mut [u32])
-    ensures { cells.new ≡ zeros (length cells.old) }
-{
-    let mut i = 0;
-    while i < cells.len() {
-        cells[i] = 0;
-        i += 1;
-    }
+// A number of some width, which a caller lends room for.
+pub trait Number: Copy {
+    const ZERO: Self;
+
+    ghost ZERO: { Self };
+
+    ghost zeros: { ℕ → List Self };
+
+    ghost zeros_are: { (n : ℕ) → zeros n ≡ replicate n ZERO };
+
+    ghost copies: { (x y : Self) → Self.is_clone x y → y ≡ x };
+
+    ghost never_fails: { (x : Self) → Self.is_infallible x };
 }
 
-pub fn zero_words(work: &mut [u64])
-    ensures { work.new ≡ zeros (length work.old) }
-{
-    let mut j = 0;
-    while j < work.len() {
-        work[j] = 0;
-        j += 1;
-    }
+impl Number for u8 {
+    const ZERO: u8 = 0;
+
+    ghost ZERO = { 0 };
+
+    ghost zeros = { zeros };
+
+    ghost zeros_are = { zeros_are };
+
+    ghost copies = { λ _ _ same. same };
+
+    ghost never_fails = { λ _. tt };
 }
 
-pub fn zero_bytes(out: &mut [u8])
-    ensures { out.new ≡ zeros (length out.old) }
+impl Number for u32 {
+    const ZERO: u32 = 0;
+
+    ghost ZERO = { 0 };
+
+    ghost zeros = { zeros };
+
+    ghost zeros_are = { zeros_are };
+
+    ghost copies = { λ _ _ same. same };
+
+    ghost never_fails = { λ _. tt };
+}
+
+impl Number for u64 {
+    const ZERO: u64 = 0;
+
+    ghost ZERO = { 0 };
+
+    ghost zeros = { zeros };
+
+    ghost zeros_are = { zeros_are };
+
+    ghost copies = { λ _ _ same. same };
+
+    ghost never_fails = { λ _. tt };
+}
+
+pub fn zero<T: Number>(cells: &mut [T])
+    ensures { cells.new ≡ T.zeros (length cells.old) }
 {
-    let mut at = 0;
-    while at < out.len() {
-        out[at] = 0;
-        at += 1;
-    }
+    cells.fill(T::ZERO);
 }

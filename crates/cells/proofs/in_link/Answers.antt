@@ -1,21 +1,12 @@
 -- `cells::in_link` meets its contract, by the test of a vertex's link.
-use native.Mathlib.Omega.{arith}
-use Rattle.pair_test.proofs.Laws.{link_there}
+use Rattle.std.proofs.Common.{arith}
 use Rattle.cells.proofs.Links.{not_in_link, in_link_by}
 use Rattle.cells.proofs.in_link.Goals as goal
-
-pub link_first-from-requires : goal.link_first-from-requires
-link_first-from-requires c =
-    link_there c.requires.0 c.requires.1
 
 pub returns-then-v-from : goal.returns-then-v-from
 returns-then-v-from c =
     let e = c.link_first-from.ensures.0 in
     not_in_link c.args.sheet.now c.requires.0 c.args.l c.args.v c.requires.1 c.requires.2 (omega arith)
-
-pub link_count-requires : goal.link_count-requires
-link_count-requires c =
-    link_there c.requires.0 c.requires.1
 
 pub returns : goal.returns
 returns c =

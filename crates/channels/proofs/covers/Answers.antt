@@ -1,5 +1,5 @@
 -- `channels::covers` meets its contract.
-use borrow.Author.Rules.{rules}
+use Rattle.std.proofs.Common.{rules}
 use Rattle.channels.specs.Channels.{lower_edge, covers}
 use Rattle.channels.proofs.covers.Goals as goal
 

@@ -1,6 +1,5 @@
 -- `channels::is_channel` meets its contract.
-use mathlib.Core.Path.{refl}
-use borrow.Author.Tests.{eq-eqb, ne_eqb}
+use Rattle.std.proofs.Common.{refl, eq-eqb, ne_eqb}
 use Rattle.channels.specs.Channels.{channel_ok}
 use Rattle.channels.proofs.is_channel.Goals as goal
 

@@ -1,13 +1,11 @@
-use borrow.Author.Rules.{rules}
-use mathlib.Core.Path.{sym}
-use native.Mathlib.Omega.{arith}
+use Rattle.std.proofs.Common.{rules, sym}
 use Rattle.sets.proofs.Below.{all_none, loop_ends, loop_goes_on, loop_stops}
 use Rattle.channels.specs.Channels.{channels_ok}
 use Rattle.channels.proofs.is_channel_list.Goals as goal
 
 pub loop-i-init : goal.loop-i-init
 loop-i-init c =
-    (omega arith, all_none _)
+    all_none _
 
 pub returns-then-not-is_channel : goal.returns-then-not-is_channel
 unfolding channels_ok

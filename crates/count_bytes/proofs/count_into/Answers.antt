@@ -17,7 +17,7 @@ returns c =
     let o = counting_outcome job x (length a.cells.now) (length a.counts.now) most_words in
     record {
       handed = gives_handed {o = o.outcome} c.count-p.ensures.given.gives c.number.ensures
-          c.put_fours.ensures;
-      bytes = c.put_eights.ensures
+          c.put_numbers.ensures;
+      bytes = c.put_numbers-2.ensures
           ∙ ap (λ l. number_bytes 8 l (length a.tally.now)) c.count-p.ensures.given.counted;
     }

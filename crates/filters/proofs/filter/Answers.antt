@@ -1,6 +1,6 @@
 -- `filters::filter` meets its contract: bit 2 of the filter number is the sweep's switch. Where the sweep leaves a
 -- class empty, so do all filters.
-use borrow.Author.Tests.{eq-eqb, ne_eqb}
+use Rattle.std.proofs.Common.{eq-eqb, ne_eqb}
 use Rattle.filters.proofs.SwitchRows.{unswept, swept_shut, swept_then}
 use Rattle.filters.proofs.filter.Goals as goal
 

@@ -1,16 +1,9 @@
 -- `filters::is_open` meets its contract. The invariant: a vertex was seen in each class passed.
-use Prim.Native.Nat.{ℕ, ◌-◌, ◌≤◌, ◌<◌}
-use mathlib.Core.Bool.{true}
-use mathlib.Core.Path.{◌≡◌}
+use Rattle.std.proofs.Common.{◌≡◌, true, ℕ, ◌<◌, ◌≤◌}
 use Rattle.sets.specs.Sets.{◌∩◌}
 use Rattle.rows.specs.Rows.{set_at, row_at}
 use Rattle.filters.proofs.is_open.Given as goal
 
 abbrev pub invariant-loop-c : goal.invariant-loop-c
 invariant-loop-c l =
-    (l.d ≤ l.c) × (l.c ≤ l.k)
-    × ((x : ℕ) → l.d ≤ x → x < l.c → (v : ℕ) × ((set_at l.part l.w 0 ∩ row_at l.part l.w l.masks x) v ≡ true))
-
-abbrev pub decreases-loop-c : goal.decreases-loop-c
-decreases-loop-c l =
-    l.k - l.c
+    (x : ℕ) → l.d ≤ x → x < l.c → (v : ℕ) × ((set_at l.part l.w 0 ∩ row_at l.part l.w l.masks x) v ≡ true)

@@ -1,5 +1,5 @@
 -- `filters::unit_filter` meets its contract: bit 4 of the filter number is the switch.
-use borrow.Author.Tests.{eq-eqb, ne_eqb}
+use Rattle.std.proofs.Common.{eq-eqb, ne_eqb}
 use Rattle.filters.proofs.SwitchRows.{unit_on, unit_off}
 use Rattle.filters.proofs.unit_filter.Goals as goal
 

@@ -1,5 +1,5 @@
 -- `graph::apply_rule` meets its contract. Both sides of the rule are written.
-use native.Mathlib.Omega.{arith}
+use Rattle.std.proofs.Common.{arith}
 use Rattle.pair_test.proofs.Laws.{links_within}
 use Rattle.rule_strikes.proofs.Sides.{fits_a, fits_b}
 use Rattle.rule_strikes.proofs.Strikes.{fit_same}

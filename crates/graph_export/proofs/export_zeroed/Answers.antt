@@ -1,26 +1,23 @@
 -- `graph_export::export_zeroed` meets its contract, cause by cause.
-use mathlib.Core.Path.{◌≡◌, refl, sym, ap, ◌∙◌}
-use Rattle.sheet.specs.Refusal.{number_of, refusal}
+use Rattle.std.proofs.Common.{refl, sym, ap, ◌∙◌}
+use Rattle.std.proofs.lemmas.Result.{err_from_is_err_and}
+use Rattle.sheet.specs.Refusal.{number_of}
 use Rattle.sheet.proofs.Accepted.{accepted}
 use Rattle.graph_export.proofs.Outcomes.{sheet_gives, texts_give}
 use Rattle.graph_export.proofs.export_zeroed.Goals as goal
 
-pub returns-in-Refused : goal.returns-in-Refused
-returns-in-Refused c =
+pub returns-in_err-check_sheet : goal.returns-in_err-check_sheet
+returns-in_err-check_sheet c =
     let P = c.requires in
-    sheet_gives _ _ _ c.check_sheet-reading.ensures c.in-Refused.is
-    c.refused.ensures P.0 P.1
+    let p = err_from_is_err_and c.from_residual.result c.from_residual.ensures.1 in
+    rw (p.1, p.2) (sheet_gives _ _ _ c.check_sheet.ensures c.in_err-check_sheet.was P.0 P.1)
 
 pub put_texts-lengths-requires : goal.put_texts-lengths-requires
 put_texts-lengths-requires c =
-    let fine : refusal c.args.sheet.now ≡ 0 =
-    sym c.check_sheet-reading.ensures ∙ ap number_of c.in_default.is in
-    accepted _ fine
+    accepted _ (sym c.check_sheet.ensures ∙ ap number_of c.in_ok-check_sheet.was)
 
 pub returns : goal.returns
 returns c =
-    let fine : refusal c.args.sheet.now ≡ 0 =
-    sym c.check_sheet-reading.ensures ∙ ap number_of c.in_default.is in
     let P = c.requires in
-    texts_give _ _ _ fine refl refl P.0 P.1 c.put_texts-lengths.ensures
-    c.finish.ensures
+    texts_give _ _ _ (sym c.check_sheet.ensures ∙ ap number_of c.in_ok-check_sheet.was) refl refl P.0 P.1
+    c.put_texts-lengths.ensures c.finish.ensures

@@ -1,27 +1,17 @@
 -- `graph_export::finish` meets its contract.
-use mathlib.Core.Path.{refl}
-use native.Mathlib.Omega.{arith}
+use Rattle.std.proofs.Common.{refl, arith}
 use Rattle.graph_export.proofs.finish.Goals as goal
 
-pub returns-then-graph-g : goal.returns-then-graph-g
-returns-then-graph-g c =
+pub returns-then-graph-lengths : goal.returns-then-graph-lengths
+returns-then-graph-lengths c =
     record {
-      whole = λ a b. absurd (omega (arith, c.if-graph-g.true));
-      short = λ _. c.too_short.ensures;
-    }
-
-pub returns-then-counts-c : goal.returns-then-counts-c
-returns-then-counts-c c =
-    record {
-      whole =
-          λ a b. absurd (omega (arith, c.if-counts-c.true));
-      short =
-          λ _. c.too_short-then-counts-c.ensures;
+      whole = λ a b. absurd (grind arith);
+      short = λ _. (refl, c.zero_both.ensures.0, c.zero_both.ensures.1);
     }
 
 pub returns : goal.returns
 returns c =
     record {
       whole = λ a b. (refl, refl, refl);
-      short = λ n. absurd (n (omega (arith, c.if-graph-g.false), omega (arith, c.if-counts-c.false)));
+      short = λ n. absurd (n (omega arith, omega arith));
     }

@@ -1,22 +1,18 @@
 -- `graph_import::write_graph` meets its contract, cause by cause.
-use native.Mathlib.Omega.{arith}
+use Rattle.std.proofs.Common.{arith}
 use Rattle.graph_import.proofs.Outcomes.{many_gives, long_gives, sheet_gives}
 use Rattle.graph_import.proofs.write_graph.Goals as goal
 
 pub returns-then-t-gt8192 : goal.returns-then-t-gt8192
 returns-then-t-gt8192 c =
     let T = c.count_rules-t.ensures.1.totals in
-    many_gives c.args.counts.now c.args.codes.now c.requires.0 _ T
-    c.if-t-gt8192.true
-    c.refused.ensures
-    c.requires.3
+    many_gives c.args.counts.now c.args.codes.now c.requires.0 _ T c.if-t-gt8192.true c.requires.3
 
 pub returns-then-sheet-sheet_bytes : goal.returns-then-sheet-sheet_bytes
 returns-then-sheet-sheet_bytes c =
     let T = c.count_rules-t.ensures.1.totals in
     long_gives c.args.counts.now c.args.codes.now c.requires.0 _ T
     (omega (arith, c.if-sheet-sheet_bytes.true, c.sheet_bytes.ensures))
-    c.refused-then-sheet-sheet_bytes.ensures
     c.requires.3
 
 pub returns : goal.returns
@@ -26,4 +22,4 @@ returns c =
     (omega (arith, c.if-t-gt8192.false))
     (omega (arith, c.if-sheet-sheet_bytes.false, c.sheet_bytes.ensures))
     c.requires.3
-    c.put_sheet-length.ensures
+    c.put_sheet.ensures

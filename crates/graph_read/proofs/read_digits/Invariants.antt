@@ -1,14 +1,9 @@
 -- `graph_read::read_digits` meets its contract: the digits before i are read.
-use Prim.Native.Nat.{◌-◌, ◌≤◌}
-use lib.ListN.{length}
+use Rattle.std.proofs.Common.{◌≤◌}
 use Rattle.graph_read.specs.Read.{most_value}
 use Rattle.graph_read.proofs.Numbers.{SoFar}
 use Rattle.graph_read.proofs.read_digits.Given as goal
 
 abbrev pub invariant-loop-i : goal.invariant-loop-i
 invariant-loop-i l =
-    (l.i ≤ length l.text) × (l.value ≤ most_value) × SoFar l.text l.at l.first l.i l.value
-
-abbrev pub decreases-loop-i : goal.decreases-loop-i
-decreases-loop-i l =
-    length l.text - l.i
+    (l.value ≤ most_value) × SoFar l.text l.at l.first l.i l.value

@@ -1,10 +1,6 @@
 -- `graph_read::read_number` meets its contract.
-use native.Mathlib.Omega.{arith}
-use mathlib.Core.Path.{◌≡◌, sym, ◌∙◌}
-use mathlib.Core.Bool.{true}
-use lib.ListN.{get_or}
-use Rattle.dimacs.specs.Reading.{is_digit}
-use Rattle.graph_read.proofs.Numbers.{digit_small, told_none, told_zero, told_bad, told_digits}
+use Rattle.std.proofs.Common.{get_or, arith}
+use Rattle.graph_read.proofs.Numbers.{digit_is, digit_small, told_none, told_zero, told_bad, told_digits}
 use Rattle.graph_read.proofs.read_number.Goals as goal
 
 pub returns-then-at-text : goal.returns-then-at-text
@@ -15,36 +11,22 @@ pub returns-then-b-eq48 : goal.returns-then-b-eq48
 returns-then-b-eq48 c =
     told_zero _ _ c.if-at-text.false c.if-b-eq48.true
 
-pub returns-then-not-is_digit : goal.returns-then-not-is_digit
-returns-then-not-is_digit c =
+pub returns-then-not-is_ascii_digit : goal.returns-then-not-is_ascii_digit
+returns-then-not-is_ascii_digit c =
     told_bad _ _ c.if-at-text.false c.if-b-eq48.false
-    (sym c.is_digit.ensures ∙ c.if-not-is_digit.true)
+    (digit_is _ c.is_ascii_digit.ensures.value c.if-not-is_ascii_digit.true)
 
 pub overflow_sub-b : goal.overflow_sub-b
 overflow_sub-b c =
-    let fine : (let s = c.args in
-    is_digit (get_or s.text.now s.at 0) ≡ true) =
-    sym c.is_digit.ensures ∙ c.if-not-is_digit.false in
-    let d = digit_small _ fine in omega (arith, d.0)
+    let d = digit_small (get_or c.args.text.now c.args.at 0) (digit_is _ c.is_ascii_digit.ensures.value c.if-not-is_ascii_digit.false) in
+    omega (arith, d.0)
 
-pub overflow_cast-b : goal.overflow_cast-b
-overflow_cast-b c =
-    let fine : (let s = c.args in
-    is_digit (get_or s.text.now s.at 0) ≡ true) =
-    sym c.is_digit.ensures ∙ c.if-not-is_digit.false in
-    let d = digit_small _ fine in omega (arith, d.1)
-
-pub read_digits-d-requires : goal.read_digits-d-requires
-read_digits-d-requires c =
-    let fine : (let s = c.args in
-    is_digit (get_or s.text.now s.at 0) ≡ true) =
-    sym c.is_digit.ensures ∙ c.if-not-is_digit.false in
-    let d = digit_small _ fine in
+pub read_digits-requires : goal.read_digits-requires
+read_digits-requires c =
+    let d = digit_small (get_or c.args.text.now c.args.at 0) (digit_is _ c.is_ascii_digit.ensures.value c.if-not-is_ascii_digit.false) in
     (omega arith, omega (arith, d.0, d.1))
 
 pub returns : goal.returns
 returns c =
-    let fine : (let s = c.args in
-    is_digit (get_or s.text.now s.at 0) ≡ true) =
-    sym c.is_digit.ensures ∙ c.if-not-is_digit.false in
-    told_digits _ _ c.if-at-text.false c.if-b-eq48.false fine c.read_digits-d.ensures
+    told_digits _ _ c.if-at-text.false c.if-b-eq48.false
+    (digit_is _ c.is_ascii_digit.ensures.value c.if-not-is_ascii_digit.false) c.from.ensures c.read_digits.ensures

@@ -6,10 +6,10 @@ pub returns-in_default : goal.returns-in_default
 returns-in_default c =
     texts_none _ _ c.in_default.is
 
-pub returns-then-clash : goal.returns-then-clash
-returns-then-clash c =
-    texts_clash _ _ _ _ c.in-Lines.is c.if-clash.true
+pub returns-then-lines : goal.returns-then-lines
+returns-then-lines c =
+    texts_clash _ _ _ c.in-Some.is c.if-lines.true
 
 pub returns : goal.returns
 returns c =
-    texts_graph _ _ _ _ c.in-Lines.is c.if-clash.false
+    texts_graph _ _ _ c.in-Some.is c.if-lines.false

@@ -12,8 +12,8 @@ returns-then-is_festival c =
     record {
       gives = three_given (job_with a.sheet.now a.channels.now)
           (setting_of a.options a.classes.now) (length a.cells.now) (length a.work.now)
-          (sym c.is_festival.ensures ∙ c.if-is_festival.true) c.refused.ensures c.zero_cells.ensures;
-      words = c.zero_words.ensures;
+          (sym c.is_festival.ensures ∙ c.if-is_festival.true) c.zero.ensures;
+      words = c.zero-then-is_festival.ensures;
     }
 
 pub returns : goal.returns

@@ -1,25 +1,16 @@
--- `heaviest::sizes_ok` meets its contract, test by test.
-use native.Mathlib.Omega.{arith}
-use native.Mathlib.Nat.{mul-le-mul}
-use Rattle.heaviest.proofs.Outcomes.{no_links, no_freqs, many_links, sizes_are}
+-- `heaviest::sizes_ok` meets its contract.
+use Rattle.std.proofs.Common.{arith, rules, mul-le-mul}
+use Rattle.heaviest.proofs.Outcomes.{sizes_not, sizes_are}
 use Rattle.heaviest.proofs.sizes_ok.Goals as goal
-
-pub returns-then-k-eq0 : goal.returns-then-k-eq0
-returns-then-k-eq0 c =
-    no_links _ _ c.if-k-eq0.true
-
-pub returns-then-m-eq0 : goal.returns-then-m-eq0
-returns-then-m-eq0 c =
-    no_freqs _ _ c.if-m-eq0.true
-
-pub returns-then-k-gt64 : goal.returns-then-k-gt64
-returns-then-k-gt64 c =
-    many_links _ _ c.if-k-gt64.true
 
 pub overflow_mul-result : goal.overflow_mul-result
 overflow_mul-result c =
-    omega (arith, mul-le-mul c.if-k-gt64.false c.requires)
+    omega (arith, mul-le-mul c.if-k-le64.true.2 c.requires)
 
-pub returns : goal.returns
-returns c =
-    sizes_are _ _ c.if-k-eq0.false c.if-m-eq0.false c.if-k-gt64.false
+pub returns-then-k-le64 : goal.returns-then-k-le64
+returns-then-k-le64 c =
+    let h = c.if-k-le64.true in sizes_are _ _ h.0 h.1 h.2
+
+pub returns-else-k-le64 : goal.returns-else-k-le64
+returns-else-k-le64 c =
+    sizes_not _ _ (search rules) c.if-k-le64.either

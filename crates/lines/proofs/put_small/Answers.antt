@@ -1,53 +1,31 @@
--- `lines::put_small` meets its contract: one digit, or two.
-use mathlib.Core.Path.{sym, ap}
-use native.Mathlib.Omega.{arith}
-use lib.ListN.{length}
-use Rattle.output.proofs.Wrote.{wrote_then, wrote_same}
-use Rattle.lines.proofs.Decimals.{decimal_one, decimal_two}
+-- One digit, two, or three.
+use Rattle.std.proofs.Common.{◌≡◌, sym, ap, length, arith, ◌+◌, ◌/◌}
+use Rattle.output.proofs.Puts.{puts_same}
+use Rattle.lines.proofs.Decimals.{decimal_one, decimal_two, decimal_three}
 use Rattle.lines.proofs.put_small.Goals as goal
 
-pub overflow_add-n : goal.overflow_add-n
-overflow_add-n c =
-    omega arith
-
-pub overflow_cast-n : goal.overflow_cast-n
-overflow_cast-n c =
-    omega arith
-
 pub put_byte-requires : goal.put_byte-requires
-put_byte-requires c =
-    omega (arith, c.requires.1, ap length (decimal_one c.args.n c.if-n-lt10.true))
+put_byte-requires c = omega (arith, c.requires.1, ap length (decimal_one c.args.n c.if-n-lt10.true))
 
 pub returns-then-n-lt10 : goal.returns-then-n-lt10
 returns-then-n-lt10 c =
-    wrote_same (sym (decimal_one c.args.n c.if-n-lt10.true)) c.put_byte.ensures
+    let e : c.last_digit-last.result ≡ 48 + c.args.n = omega (arith, c.last_digit-last.ensures) in
+    puts_same (sym (decimal_one c.args.n c.if-n-lt10.true)) (rw e at c.put_byte.ensures)
 
-pub overflow_add-n-2 : goal.overflow_add-n-2
-overflow_add-n-2 c =
-    omega arith
+pub put_word-requires : goal.put_word-requires
+put_word-requires c = omega (arith, c.requires.1, ap length (decimal_two c.args.n c.if-n-lt10.false c.if-n-lt100.true))
 
-pub overflow_cast-n-2 : goal.overflow_cast-n-2
-overflow_cast-n-2 c =
-    omega arith
+pub returns-then-n-lt100 : goal.returns-then-n-lt100
+returns-then-n-lt100 c =
+    let d : c.last_digit-middle.result ≡ 48 + c.args.n / 10 = omega (arith, c.last_digit-middle.ensures) in
+    puts_same (sym (decimal_two c.args.n c.if-n-lt10.false c.if-n-lt100.true))
+    (rw (d, c.last_digit-last.ensures) at c.put_word.ensures)
 
-pub put_byte-one-requires : goal.put_byte-one-requires
-put_byte-one-requires c =
-    omega (arith, c.requires.1, ap length (decimal_two c.args.n c.if-n-lt10.false c.requires.0))
-
-pub overflow_add-n-3 : goal.overflow_add-n-3
-overflow_add-n-3 c =
-    omega arith
-
-pub overflow_cast-n-3 : goal.overflow_cast-n-3
-overflow_cast-n-3 c =
-    omega arith
-
-pub put_byte-requires-2 : goal.put_byte-requires-2
-put_byte-requires-2 c =
-    let e = ap length (decimal_two c.args.n c.if-n-lt10.false c.requires.0) in
-    omega (arith, c.requires.1, e, c.put_byte-one.ensures.end)
+pub put_word-requires-2 : goal.put_word-requires-2
+put_word-requires-2 c = omega (arith, c.requires.1, ap length (decimal_three c.args.n c.if-n-lt100.false c.requires.0))
 
 pub returns : goal.returns
 returns c =
-    wrote_same (sym (decimal_two c.args.n c.if-n-lt10.false c.requires.0))
-    (wrote_then c.put_byte-one.ensures c.put_byte-2.ensures)
+    let d : c.last_digit.result ≡ 48 + c.args.n / 100 = omega (arith, c.last_digit.ensures) in
+    puts_same (sym (decimal_three c.args.n c.if-n-lt100.false c.requires.0))
+    (rw (d, c.last_digit-middle.ensures, c.last_digit-last.ensures) at c.put_word-2.ensures)

@@ -1,21 +1,15 @@
-use Prim.Native.Nat.{◌/◌}
-use mathlib.Core.Path.{◌≡◌, refl, sym, ap, ◌∙◌}
-use native.Mathlib.Nat.{div-one}
-use native.Mathlib.Omega.{arith}
-use Rattle.number_bytes.proofs.NumberBytes.{next_rest}
+-- `number_bytes::byte_of` meets its contract.
+use Rattle.std.proofs.Common.{sym}
+use Rattle.number_bytes.proofs.NumberBytes.{byte_in, byte_past}
 use Rattle.number_bytes.proofs.byte_of.Goals as goal
 
-pub loop-below-init : goal.loop-below-init
-loop-below-init c =
-    (omega arith, sym (div-one _))
+pub returns-in-Some : goal.returns-in-Some
+returns-in-Some g c =
+    let at = c.in-Some.ensures.lookup in
+    let is = g.met.T.Number.converts_to_value _ _ c.into-number.ensures in
+    rw (c.to_le_bytes.ensures, c.BYTES-in-Some.ensures)
+    (byte_in g.T.Number.value _ _ _ _ _ _ g.T.Number.width c.BYTES.ensures at.3.0 at.1 is)
 
-pub loop-below-preserved : goal.loop-below-preserved
-loop-below-preserved c =
-    let l = c.loop-below in
-    (omega arith, ap (λ x. x / 256) l.invariant.1 ∙ next_rest _ l.below)
-
-pub returns : goal.returns
-returns c =
-    let l = c.loop-below in
-    let e : l.below ≡ c.args.j = omega (arith, l.invariant.0) in
-    rw (l.invariant.1, e) refl
+pub returns-in-None : goal.returns-in-None
+returns-in-None g c =
+    sym (byte_past g.T.Number.value _ _ _ _ c.BYTES.ensures c.in-None.ensures.lookup.3)

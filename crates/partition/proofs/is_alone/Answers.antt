@@ -4,4 +4,4 @@ use Rattle.partition.proofs.is_alone.Goals as goal
 
 pub returns : goal.returns
 returns c =
-    alone c.requires.3 c.requires.4 c.row_at-a.ensures c.row_at-b.ensures c.is_empty_common.ensures
+    alone c.requires.3 c.requires.4 c.row_at-a.ensures (rw c.from.ensures at c.row_at-b.ensures) c.is_empty_common.ensures

@@ -1,8 +1,6 @@
 -- `partition::is_partition` meets its contract. A list of another length, or with a class that is none of the k, is
 -- refused before the masks are written.
-use borrow.Author.Rules.{rules}
-use mathlib.Core.Path.{sym, ◌∙◌}
-use native.Mathlib.Omega.{arith}
+use Rattle.std.proofs.Common.{sym, ◌∙◌, arith}
 use Rattle.partition.proofs.Testing.{tested_length, tested_placed, tested_alone}
 use Rattle.partition.proofs.is_partition.Goals as goal
 
@@ -14,15 +12,6 @@ pub returns-then-not-is_placed : goal.returns-then-not-is_placed
 returns-then-not-is_placed c =
     tested_placed (omega arith) (sym c.is_placed.ensures
     ∙ c.if-not-is_placed.true)
-
-pub all_alone-requires : goal.all_alone-requires
-all_alone-requires c = (
-  search rules,
-  search rules,
-  search rules,
-  sym c.is_placed.ensures
-      ∙ c.if-not-is_placed.false,
-)
 
 pub returns : goal.returns
 returns c =

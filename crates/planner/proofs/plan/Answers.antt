@@ -12,7 +12,7 @@ use Rattle.planner.proofs.plan.Goals as goal
 
 pub plan_zeroed-r-requires : goal.plan_zeroed-r-requires
 plan_zeroed-r-requires c =
-    zero_again _ _ c.zero_cells.ensures
+    zero_again _ _ c.zero.ensures
 
 pub returns : goal.returns
 returns c =
@@ -22,6 +22,6 @@ returns c =
           (λ m. Gives (outcome (job_with a.sheet.now a.channels.now)
           (setting_of a.options a.classes.now) m (length a.work.now))
           c.plan_zeroed-r.result c.plan_zeroed-r.new.cells)
-          (zero_length _ _ c.zero_cells.ensures) c.plan_zeroed-r.ensures;
-      words = c.zero_words.ensures ∙ ap zeros (search rules);
+          (zero_length _ _ c.zero.ensures) c.plan_zeroed-r.ensures;
+      words = c.zero-2.ensures ∙ ap zeros (search rules);
     }

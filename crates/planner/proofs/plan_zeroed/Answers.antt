@@ -1,58 +1,50 @@
 -- `planner::plan_zeroed` meets its contract: it is refused, or planned with a chosen vertex for each link.
-use mathlib.Core.Path.{refl, sym, subst, ◌∙◌}
-use mathlib.Core.Bool.{false}
-use native.Mathlib.Omega.{arith}
-use lib.ListN.{length}
+use Rattle.std.proofs.Common.{false, length, sym, ◌∙◌, arith}
+use Rattle.std.proofs.lemmas.Result.{err_from_is_err_and}
 use lib.Seq.{length-take-le}
 use Rattle.sheet.proofs.Accepted.{accepted}
 use Rattle.rules.specs.Job.{job_with}
 use Rattle.setting.specs.Setting.{setting_of}
-use Rattle.planner.specs.Planned.{FirstCause}
-use Rattle.planner.specs.declared.Asked.TheVariants.{Fine}
 use Rattle.planner.proofs.Outcomes.{gives_refused}
 use Rattle.planner.proofs.plan_zeroed.Goals as goal
 
-pub returns-in-Refused : goal.returns-in-Refused
-returns-in-Refused c =
-    let E = subst (FirstCause (job_with c.args.sheet.now c.args.channels.now) c.args.options (length c.args.cells.now) (length c.args.work.now)) c.in-Refused.is c.first_cause-asked.ensures in
-    gives_refused (job_with c.args.sheet.now c.args.channels.now) (setting_of c.args.options c.args.classes.now) (length c.args.cells.now)
-    (length c.args.work.now) _ _ (E.1 false c.args.classes.now) E.0 refl c.refused.ensures c.requires
+pub returns-in_err-first_cause : goal.returns-in_err-first_cause
+returns-in_err-first_cause c =
+    let a = c.args in
+    let p = err_from_is_err_and c.from_residual.result c.from_residual.ensures.1 in
+    let E = c.in_err-first_cause.ensures in
+    rw (p.1, p.2) (gives_refused (job_with a.sheet.now a.channels.now) (setting_of a.options a.classes.now)
+    (length a.cells.now) (length a.work.now) _ (E.1 false a.classes.now) E.0 c.requires)
 
 pub links_of-k-requires : goal.links_of-k-requires
 links_of-k-requires c =
-    let fine : FirstCause (job_with c.args.sheet.now c.args.channels.now) c.args.options (length c.args.cells.now) (length c.args.work.now) Fine =
-    subst (FirstCause (job_with c.args.sheet.now c.args.channels.now) c.args.options (length c.args.cells.now) (length c.args.work.now)) c.in_default.is
-    c.first_cause-asked.ensures in
-    (accepted _ (fine.1 false c.args.classes.now).sheet).head.long
+    (accepted _ (c.in_ok-first_cause.ensures.1 false c.args.classes.now).sheet).head.long
 
 pub slice_bounds-chosen-end : goal.slice_bounds-chosen-end
 slice_bounds-chosen-end c =
-    let fine : FirstCause (job_with c.args.sheet.now c.args.channels.now) c.args.options (length c.args.cells.now) (length c.args.work.now) Fine =
-    subst (FirstCause (job_with c.args.sheet.now c.args.channels.now) c.args.options (length c.args.cells.now) (length c.args.work.now)) c.in_default.is
-    c.first_cause-asked.ensures in
-    omega (arith, c.links_of-k.ensures.0, (accepted _ (fine.1 false c.args.classes.now).sheet).head.k_small)
+    omega (
+      arith,
+      c.links_of-k.ensures.0,
+      (accepted _ (c.in_ok-first_cause.ensures.1 false c.args.classes.now).sheet).head.k_small,
+    )
 
 pub slice_bounds-plan_in-end : goal.slice_bounds-plan_in-end
 slice_bounds-plan_in-end c =
-    let fine : FirstCause (job_with c.args.sheet.now c.args.channels.now) c.args.options (length c.args.cells.now) (length c.args.work.now) Fine =
-    subst (FirstCause (job_with c.args.sheet.now c.args.channels.now) c.args.options (length c.args.cells.now) (length c.args.work.now)) c.in_default.is
-    c.first_cause-asked.ensures in
     sym (length-take-le _ _ (omega (
       arith,
       c.links_of-k.ensures.0,
-      (accepted _ (fine.1 false c.args.classes.now).sheet).head.k_small,
+      (accepted _ (c.in_ok-first_cause.ensures.1 false c.args.classes.now).sheet).head.k_small,
     )))
 
 pub plan_in-requires : goal.plan_in-requires
 plan_in-requires c =
-    let fine : FirstCause (job_with c.args.sheet.now c.args.channels.now) c.args.options (length c.args.cells.now) (length c.args.work.now) Fine =
-    subst (FirstCause (job_with c.args.sheet.now c.args.channels.now) c.args.options (length c.args.cells.now) (length c.args.work.now)) c.in_default.is
-    c.first_cause-asked.ensures in
+    let fine = c.in_ok-first_cause.ensures in
     let P = fine.1 false c.args.classes.now in
+    let k = c.links_of-k.ensures.0 in
     let h = (accepted _ P.sheet).head in
     record {
       passed = P;
       enough = fine.0;
       zero = c.requires;
-      vertices = length-take-le _ _ (omega (arith, c.links_of-k.ensures.0, h.k_small)) ∙ c.links_of-k.ensures.0;
+      vertices = length-take-le _ _ (omega (arith, k, h.k_small)) ∙ k;
     }

@@ -1,6 +1,6 @@
 -- `planner::set_up` meets its contract: the class list has a byte for each vertex. What the words hold does not depend
 -- on whether counts are asked for.
-use mathlib.Core.Path.{sym}
+use mathlib.Core.Path.{refl, sym, ◌∙◌}
 use mathlib.Core.Bool.{Bool}
 use mathlib.Core.List.{List}
 use Prim.Native.Nat.{ℕ}
@@ -76,11 +76,15 @@ fill_words-listed-requires c =
       choice_small (setting_of c.args.options c.args.classes.now) R.setting,
     )
 
-pub returns : goal.returns
-returns c =
+pub returns-then-listed : goal.returns-then-listed
+returns-then-listed c =
     record {
       laid = c.lay_out-lay.ensures;
       freqs = c.freqs_of-n.ensures.0;
       links = c.links_of-k.ensures.0;
-      filled = counting-too c.fill_words-listed.ensures;
+      filled = λ on. rw c.if-listed.true at (counting-too c.fill_words-listed.ensures on);
     }
+
+pub returns-else-listed : goal.returns-else-listed
+returns-else-listed c =
+    (refl, λ on. sym (counting-too c.fill_words-listed.ensures on).list ∙ c.if-listed.false)

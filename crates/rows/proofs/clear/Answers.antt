@@ -1,15 +1,12 @@
-use Rattle.vset.proofs.Words.{word_nothing, ends_nothing}
-use Rattle.rows.proofs.Rows.{filling_none, filling_more, filling_all}
+-- `rows::clear` meets its contract. The part that is lent is the row.
+use Rattle.std.proofs.Common.{ap, ◌∙◌}
+use Rattle.sets.specs.Sets.{nothing}
+use Rattle.vset.specs.Words.{has}
+use Rattle.rows.proofs.Parts.{lent_row, zeros_nothing}
 use Rattle.rows.proofs.clear.Goals as goal
-
-pub loop-i-init : goal.loop-i-init
-loop-i-init c =
-    filling_none _ _ _ _
-
-pub loop-i-preserved : goal.loop-i-preserved
-loop-i-preserved c =
-    filling_more 0 c.loop-i.invariant c.loop-i-test.true c.requires (word_nothing _)
 
 pub returns : goal.returns
 returns c =
-    filling_all c.loop-i.invariant c.loop-i-test.false c.requires (ends_nothing _)
+    let a = c.args in
+    let zeros = c.fill.ensures.after (λ y same. same) in
+    lent_row (λ S. nothing) a.to a.w a.part.now _ c.requires c.fill.ensures.len (ap has zeros ∙ zeros_nothing _)

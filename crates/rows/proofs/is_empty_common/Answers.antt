@@ -1,7 +1,5 @@
 -- `rows::is_empty_common` meets its contract. The parts that are lent are the rows.
-use Prim.Native.Nat.{◌+◌, ◌-◌}
-use mathlib.Core.Path.{◌≡◌}
-use native.Mathlib.Omega.{arith}
+use Rattle.std.proofs.Common.{◌+◌, ◌-◌, ◌≡◌, arith}
 use Rattle.rows.specs.Rows.{set_at}
 use Rattle.rows.proofs.is_empty_common.Goals as goal
 

@@ -1,7 +1,5 @@
 -- `rows::next_member` meets its contract. The part that is lent is the row.
-use Prim.Native.Nat.{◌+◌, ◌-◌}
-use mathlib.Core.Path.{◌≡◌}
-use native.Mathlib.Omega.{arith}
+use Rattle.std.proofs.Common.{◌+◌, ◌-◌, ◌≡◌, arith}
 use Rattle.rows.specs.Rows.{set_at}
 use Rattle.rows.proofs.Rows.{row_length}
 use Rattle.rows.proofs.next_member.Goals as goal

@@ -1,5 +1,5 @@
 -- `rows::row_at` meets its contract. Row v of n lies inside.
-use borrow.Author.Rules.{rules}
+use Rattle.std.proofs.Common.{rules}
 use Rattle.rows.proofs.Rows.{row_inside}
 use Rattle.rows.proofs.row_at.Goals as goal
 

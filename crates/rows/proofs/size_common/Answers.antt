@@ -1,7 +1,5 @@
 -- `rows::size_common` meets its contract. The parts that are lent are the rows.
-use Prim.Native.Nat.{◌+◌, ◌-◌}
-use mathlib.Core.Path.{◌≡◌}
-use native.Mathlib.Omega.{arith}
+use Rattle.std.proofs.Common.{◌+◌, ◌-◌, ◌≡◌, arith}
 use Rattle.rows.specs.Rows.{set_at}
 use Rattle.rows.proofs.Rows.{row_length}
 use Rattle.rows.proofs.size_common.Goals as goal

@@ -1,5 +1,5 @@
 -- `setting::is_in_range` meets its contract: its one expression is the definition.
-use mathlib.Core.Path.{refl}
+use Rattle.std.proofs.Common.{refl}
 use Rattle.setting.specs.Setting.{in_range}
 use Rattle.setting.proofs.is_in_range.Goals as goal
 

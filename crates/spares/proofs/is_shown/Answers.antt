@@ -1,17 +1,19 @@
 -- `spares::is_shown` meets its contract.
-use mathlib.Core.Path.{sym, ◌∙◌}
+use Rattle.std.proofs.Common.{◌≡◌, sym, ◌∙◌, false, true, is_ok, arith}
+use Rattle.spares.proofs.Laws.{judged_ok}
 use Rattle.spares.proofs.is_shown.Goals as goal
 
-pub returns-then-not-is_judged : goal.returns-then-not-is_judged
-returns-then-not-is_judged c =
-    let j = c.is_judged in rw (← j.ensures, c.if-not-is_judged.true)
+pub returns-then-is_err : goal.returns-then-is_err
+returns-then-is_err c =
+    let e : is_ok c.args.answer ≡ false = grind arith in
+    rw (← judged_ok _, e)
 
 pub cells_listed-requires : goal.cells_listed-requires
 cells_listed-requires c =
-    let j = c.is_judged in
-    c.requires (sym j.ensures ∙ c.if-not-is_judged.false)
+    let e : is_ok c.args.answer ≡ true = grind arith in
+    c.requires (sym (judged_ok _) ∙ e)
 
 pub returns : goal.returns
 returns c =
-    let j = c.is_judged in
-    rw (← j.ensures, c.if-not-is_judged.false) c.cells_listed.ensures
+    let e : is_ok c.args.answer ≡ true = grind arith in
+    rw (← judged_ok _, e) c.cells_listed.ensures

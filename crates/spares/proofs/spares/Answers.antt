@@ -1,9 +1,9 @@
 -- `spares::spares` meets its contract: the table is filled just where it is shown.
-use mathlib.Core.Path.{sym, ◌∙◌}
+use Rattle.std.proofs.Common.{sym, ◌∙◌}
 use Rattle.sets.proofs.Tests.{and_l, and_r}
 use Rattle.sheet.proofs.Accepted.{accepted}
 use Rattle.spares.specs.Spares.{judged}
-use Rattle.spares.proofs.Laws.{judged_checked, tabled_as, shown_is, left_shown, left_hidden}
+use Rattle.spares.proofs.Laws.{judged_checked, tabled_as, tabled_zero, shown_is, left_shown, left_hidden}
 use Rattle.spares.proofs.spares.Goals as goal
 
 pub is_shown-requires : goal.is_shown-requires
@@ -27,4 +27,4 @@ pub returns-else-is_shown : goal.returns-else-is_shown
 returns-else-is_shown c =
     let e = c.answer_for-answer.ensures in
     let s = sym (shown_is _ _ _ _ e) ∙ sym c.is_shown.ensures ∙ c.if-is_shown.false in
-    record { answer = e; table = tabled_as (λ i l. left_hidden _ _ _ i s) c.clear.ensures }
+    record { answer = e; table = tabled_as (λ i l. left_hidden _ _ _ i s) (tabled_zero _ _ (c.fill-else-is_shown.ensures.after (λ y same. same))) }

@@ -14,45 +14,42 @@ use Rattle.spares_bytes.proofs.spares_bytes.Goals as goal
 
 pub slice_bounds-spares_into-end : goal.slice_bounds-spares_into-end
 slice_bounds-spares_into-end c =
-    let n = c.lent-m in
-    sym (length-take-le n.result (replicate 128 0) n.ensures.1)
+    sym (length-take-le c.lent-m.result (replicate 128 0) (omega arith))
 
 pub slice_bounds-spares_into-end-2 : goal.slice_bounds-spares_into-end-2
 slice_bounds-spares_into-end-2 c =
-    let n = c.places-n in
-    sym (length-take-le n.result (replicate 16384 (pos 0)) n.ensures.1)
+    sym (length-take-le c.lent-n.result (replicate 16384 (pos 0)) (omega arith))
 
 pub slice_bounds-spares_into-end-3 : goal.slice_bounds-spares_into-end-3
 slice_bounds-spares_into-end-3 c =
-    let n = c.places-n in
-    sym (length-take-le n.result (replicate 16384 0) n.ensures.1)
+    sym (length-take-le c.lent-n.result (replicate 16384 0) (omega arith))
 
 pub spares_into-requires : goal.spares_into-requires
 spares_into-requires c =
     let a = c.args in
     let n = c.lent-m in
-    let p = c.places-n in
+    let p = c.lent-n in
     let e : length {A = ℕ} (take n.result (replicate 128 0)) ≡ n.result =
-    length-take-le n.result (replicate 128 0) n.ensures.1 in (
+    length-take-le n.result (replicate 128 0) (omega arith) in (
       omega (arith, n.ensures.0, min-le_left (length a.from.now / 4) 128),
-      length-take-le p.result (replicate 16384 0) p.ensures.1
-          ∙ sym (length-take-le p.result (replicate 16384 (pos 0)) p.ensures.1),
+      length-take-le p.result (replicate 16384 0) (omega arith)
+          ∙ sym (length-take-le p.result (replicate 16384 (pos 0)) (omega arith)),
     )
 
 pub returns : goal.returns
 unfolding cells_in
 returns c =
     let n = c.lent-m in
-    let p = c.places-n in
+    let p = c.lent-n in
     let a = c.args in
     let job = job_with a.sheet.now a.channels.now in
     let g = cell_in a.from.now in
     let m = length a.from.now / 4 in
     let room = length a.to.now / 4 in
     let e : length {A = ℕ} (take n.result (replicate 128 0)) ≡ min m 128 =
-    length-take-le n.result (replicate 128 0) n.ensures.1 ∙ n.ensures.0 in
+    length-take-le n.result (replicate 128 0) (omega arith) ∙ n.ensures.0 in
     let f : length {A = ℤ} (take p.result (replicate 16384 (pos 0))) ≡ min room 16384 =
-    length-take-le p.result (replicate 16384 (pos 0)) p.ensures.1 ∙ p.ensures.0 in
+    length-take-le p.result (replicate 16384 (pos 0)) (omega arith) ∙ p.ensures.0 in
     let E = c.spares_into.ensures in
     record {
       number = E.0 ∙ answer_lent job g m _ room _ e f;

@@ -18,7 +18,7 @@ returns c =
     let e = c.get_cells.ensures in
     let A = rw e at c.spares-answer.ensures in
     let B = rw c.requires.1 at c.get_bits.ensures in (
-      c.check_number.ensures ∙ A.answer,
-      c.put_fours.ensures
+      c.from.ensures ∙ c.check_number.ensures ∙ A.answer,
+      c.put_numbers.ensures
           ∙ ap (λ (t : List ℕ). cell_bytes t (length a.to.now)) (B ∙ table_bits_lem _ _ _ _ A.table),
     )

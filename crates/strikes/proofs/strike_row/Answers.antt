@@ -1,5 +1,5 @@
 -- `strikes::strike_row` meets its contract.
-use mathlib.Core.Path.{sym, ◌∙◌}
+use Rattle.std.proofs.Common.{sym, ◌∙◌}
 use Rattle.rules.specs.Job.{job_with}
 use Rattle.rule_strikes.proofs.Strikes.{row_written}
 use Rattle.rule_strikes.proofs.Spans.{put_as}

@@ -1,5 +1,5 @@
 -- `strikes::strike_vertex` meets its contract.
-use mathlib.Core.Path.{sym, ◌∙◌}
+use Rattle.std.proofs.Common.{sym, ◌∙◌}
 use Rattle.rule_strikes.proofs.Spans.{struck_yes, struck_no}
 use Rattle.strikes.proofs.strike_vertex.Goals as goal
 

@@ -1,54 +1,54 @@
--- `text::put_answer` meets its contract, by the answer's number.
-use mathlib.Core.Path.{◌≡◌, sym, ap, ◌∙◌}
-use native.Mathlib.Omega.{arith}
+-- Answer by answer.
+use Rattle.std.proofs.Common.{◌≡◌, sym, ap, ◌∙◌, arith}
 use Rattle.sheet.specs.Sheet.{k_of}
 use Rattle.sheet.proofs.Accepted.{accepted}
+use Rattle.search.specs.Walk.{run_number}
+use Rattle.planner.specs.Planned.{verdict_number}
+use Rattle.planner.proofs.Found.{refusal_few}
+use Rattle.output.proofs.Puts.{puts_same}
 use Rattle.lines.specs.Lines.{ascii, line}
-use Rattle.text.proofs.Holding.{wrote_holds, same_holds}
 use Rattle.text.proofs.Links.{lines_done}
-use Rattle.text.proofs.Answers.{found_holds, printed_none, printed_stopped, printed_refused}
+use Rattle.text.proofs.Answers.{found_put, printed_none, printed_stopped, printed_refused}
 use Rattle.text.proofs.put_answer.Goals as goal
 
-pub links_of-k-requires : goal.links_of-k-requires
-links_of-k-requires c =
-    (accepted _ (c.requires.1 (sym c.verdict_number-number.ensures ∙ c.if-number-eq100.true)).0).head.long
+pub links_of-requires : goal.links_of-requires
+links_of-requires c =
+    (accepted _ (c.requires.1 (ap verdict_number c.in-Ok.is ∙ ap run_number c.in-Found.is)).0).head.long
 
 pub put_link_lines-requires : goal.put_link_lines-requires
 unfolding ascii
 put_link_lines-requires c =
-    let f = c.requires.1 (sym c.verdict_number-number.ensures ∙ c.if-number-eq100.true) in
-    let k = c.links_of-k.ensures in
-    (c.put_line-at.ensures.1, omega (arith, f.1), omega (arith, f.2))
+    let f = c.requires.1 (ap verdict_number c.in-Ok.is ∙ ap run_number c.in-Found.is) in
+    let k = c.links_of.ensures in
+    (omega (arith, c.put_line.ensures.1), omega (arith, f.1), omega (arith, f.2))
 
-pub returns-then-number-eq100 : goal.returns-then-number-eq100
+pub returns-in-Found : goal.returns-in-Found
 unfolding ascii
-returns-then-number-eq100 c =
-    let e = sym c.verdict_number-number.ensures ∙ c.if-number-eq100.true in
-    let few = (c.requires.1 e).2 in
-    let k : c.links_of-k.result ≡ k_of c.args.sheet.now = c.links_of-k.ensures.0 in
-    found_holds _ _ e few c.put_line-at.ensures.1 c.requires.0 c.put_line-at.ensures.0
-    (lines_done k c.put_link_lines.ensures)
+returns-in-Found c =
+    let e = ap run_number c.in-Found.is in
+    let few = (c.requires.1 (ap verdict_number c.in-Ok.is ∙ e)).2 in
+    let k : c.links_of.result ≡ k_of c.args.sheet.now = c.links_of.ensures.0 in
+    let lines = lines_done k c.put_link_lines.ensures in
+    (rw c.in-Ok.is (found_put _ _ e c.put_line.ensures.0 lines), omega (arith, lines.few, few, c.put_line.ensures.1))
 
-pub returns-then-number-eq101 : goal.returns-then-number-eq101
+pub returns-in-None : goal.returns-in-None
 unfolding ascii
-returns-then-number-eq101 c =
-    let e = c.verdict_number-number.ensures in
-    same_holds (printed_none _ _ (sym e ∙ c.if-number-eq101.true))
-    (wrote_holds (omega (arith, c.put_line.ensures.1)) c.put_line.ensures.0)
+returns-in-None c = (
+  rw c.in-Ok.is (puts_same (sym (printed_none _ _ (ap run_number c.in-None.is))) c.put_line-in-None.ensures.0),
+  omega (arith, c.put_line-in-None.ensures.1),
+)
 
-pub returns-then-number-eq102 : goal.returns-then-number-eq102
+pub returns-in-Stopped : goal.returns-in-Stopped
 unfolding ascii
-returns-then-number-eq102 c =
-    let e = c.verdict_number-number.ensures in
-    same_holds (printed_stopped _ _ (sym e ∙ c.if-number-eq102.true))
-    (wrote_holds (omega (arith, c.put_line-then-number-eq102.ensures.1)) c.put_line-then-number-eq102.ensures.0)
+returns-in-Stopped c = (
+  rw c.in-Ok.is (puts_same (sym (printed_stopped _ _ (ap run_number c.in-Stopped.is))) c.put_line-in-Stopped.ensures.0),
+  omega (arith, c.put_line-in-Stopped.ensures.1),
+)
 
-pub returns : goal.returns
+pub returns-in-Err : goal.returns-in-Err
 unfolding ascii
-returns c =
-    let e = c.verdict_number-number.ensures in
-    let a = c.if-number-eq100.false in
-    let b = c.if-number-eq101.false in
-    let r = printed_refused _ _ (λ h. a (e ∙ h)) (λ h. b (e ∙ h)) (λ h. c.if-number-eq102.false (e ∙ h)) in
-    same_holds (r ∙ ap (λ n. line (ascii "refused") n) (sym e))
-    (wrote_holds (omega (arith, c.put_line-2.ensures.1)) c.put_line-2.ensures.0)
+returns-in-Err c =
+    let n = refusal_few c.in-Err.refusal in
+    let e = printed_refused _ _ (λ e. omega arith) (λ e. omega arith) (λ e. omega arith)
+    ∙ ap (λ n. line (ascii "refused") n) (sym c.from.ensures) in
+    (rw c.in-Err.is (puts_same (sym e) c.put_line-in-Err.ensures.0), omega (arith, c.put_line-in-Err.ensures.1))

@@ -1,5 +1,5 @@
 -- `vset::contains` meets its contract. The contract is what it computes.
-use borrow.Author.Rules.{rules}
+use Rattle.std.proofs.Common.{rules}
 use Rattle.vset.specs.Words.{bit, has}
 use Rattle.vset.proofs.contains.Goals as goal
 

@@ -1,7 +1,6 @@
 -- `vset::insert` meets its contract. The word that is stored keeps the set with v, and the other words do not have v.
-use Prim.Native.Nat.{◌/◌}
+use Rattle.std.proofs.Common.{◌/◌, arith}
 use mathlib.Core.Bool.{or-false}
-use native.Mathlib.Omega.{arith}
 use Rattle.sets.specs.Sets.{◌∪◌, just}
 use Rattle.vset.specs.Words.{has}
 use Rattle.vset.proofs.Words.{row_set, word_has, word_just, word_join, just_other}

@@ -1,7 +1,6 @@
 -- `vset::remove` meets its contract. The word that is stored keeps the set without v, and the other words do not have v.
-use Prim.Native.Nat.{◌/◌, ◌%◌}
+use Rattle.std.proofs.Common.{◌/◌, ◌%◌, arith}
 use mathlib.Core.Bool.{and-true}
-use native.Mathlib.Omega.{arith}
 use Rattle.sets.specs.Sets.{◌∖◌, just}
 use Rattle.vset.specs.Words.{has}
 use Rattle.vset.proofs.Words.{row_set, word_has, word_just, word_cut, just_other, one_lt}

@@ -1,58 +1,13 @@
-use borrow.Author.Rules.{rules}
-use Prim.Native.Nat.{ℕ, ◌*◌}
-use mathlib.Core.Path.{◌≡◌, refl, ap, ◌∙◌}
-use native.Mathlib.Omega.{arith}
-use lib.ListN.{length, get_or}
-use lib.Bits.{bit_and, and_lt}
-use Rattle.sets.specs.Below.{count}
+-- `vset::size_common` meets its contract: the words are what two rows have in common.
+use Rattle.std.proofs.Common.{◌≡◌, get_or, bit_and, rules}
 use Rattle.sets.specs.Sets.{◌∩◌}
 use Rattle.vset.specs.Words.{has}
-use Rattle.vset.proofs.Words.{word_has, word_meet}
-use Rattle.vset.proofs.Count.{Counted, counted}
+use Rattle.vset.proofs.Words.{common}
 use Rattle.vset.proofs.size_common.Goals as goal
-
-pub loop-i-init : goal.loop-i-init
-unfolding count
-loop-i-init c =
-    (search rules, refl)
-
-pub overflow_cast-n : goal.overflow_cast-n
-unfolding count
-overflow_cast-n c =
-    let one_more : (let a = c.args.a.now in
-    let b = c.args.b.now in
-    Counted (has a ∩ has b) c.loop-i.i (bit_and (get_or a c.loop-i.i 0) (get_or b c.loop-i.i 0)) c.loop-i.n) =
-    counted _ (word_meet (word_has _ _) (word_has _ _))
-    (and_lt 64 _ _ (c.type_inv.a c.loop-i.i).fits
-    (c.type_inv.b c.loop-i.i).fits)
-    c.loop-i.invariant.1 in
-    omega (arith, one_more)
-
-pub overflow_add-n : goal.overflow_add-n
-unfolding count
-overflow_add-n c =
-    let one_more : (let a = c.args.a.now in
-    let b = c.args.b.now in
-    Counted (has a ∩ has b) c.loop-i.i (bit_and (get_or a c.loop-i.i 0) (get_or b c.loop-i.i 0)) c.loop-i.n) =
-    counted _ (word_meet (word_has _ _) (word_has _ _))
-    (and_lt 64 _ _ (c.type_inv.a c.loop-i.i).fits
-    (c.type_inv.b c.loop-i.i).fits)
-    c.loop-i.invariant.1 in
-    omega (arith, one_more)
-
-pub loop-i-preserved : goal.loop-i-preserved
-unfolding count
-loop-i-preserved c =
-    let one_more : (let a = c.args.a.now in
-    let b = c.args.b.now in
-    Counted (has a ∩ has b) c.loop-i.i (bit_and (get_or a c.loop-i.i 0) (get_or b c.loop-i.i 0)) c.loop-i.n) =
-    counted _ (word_meet (word_has _ _) (word_has _ _))
-    (and_lt 64 _ _ (c.type_inv.a c.loop-i.i).fits
-    (c.type_inv.b c.loop-i.i).fits)
-    c.loop-i.invariant.1 in
-    (omega arith, one_more.more)
 
 pub returns : goal.returns
 returns c =
-    let e : c.loop-i.i ≡ length c.args.a.now = omega arith in
-    c.loop-i.invariant.1 ∙ ap (λ (j : ℕ). count (64 * j) (has c.args.a.now ∩ has c.args.b.now)) e
+    let a = c.args.a.now in
+    let b = c.args.b.now in
+    c.size_by.ensures (has a ∩ has b)
+    (λ i x h made fits. let e : x ≡ bit_and (get_or a i 0) (get_or b i 0) = search rules in rw e (common a b i))

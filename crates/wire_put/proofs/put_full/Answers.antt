@@ -1,12 +1,7 @@
--- `wire_put::put_full` meets its contract.
-use Rattle.wire_put.proofs.Fulls.{full_put}
+use Rattle.std.proofs.Common.{rules}
+use Rattle.wire_put.specs.Puts.{full}
 use Rattle.wire_put.proofs.put_full.Goals as goal
 
 pub returns : goal.returns
-returns c =
-    full_put
-    c.args.x
-    c.put_byte-second.ensures
-    c.put_byte-third.ensures
-    c.put_byte-fourth.ensures
-    c.put_byte.ensures
+unfolding full
+returns c = search rules

@@ -1,5 +1,5 @@
 -- `channels::lower_edges` meets its contract: the test of all entries together computes to yes.
-use mathlib.Core.Path.{refl}
+use Rattle.std.proofs.Common.{refl}
 use Rattle.sets.specs.Below.{all}
 use Rattle.channels.specs.Channels.{lower_edge}
 use Rattle.channels.proofs.Entries.{is_chart, chart}

@@ -1,6 +1,5 @@
 -- `filters::failed_rows::round` meets its contract. The invariant: the classes below c have had their turn, one after
 -- another.
-use Prim.Native.Nat.{◌-◌}
 use Rattle.cliques.specs.Words.{four_rows}
 use Rattle.filters.specs.Failed.{failed}
 use Rattle.filters.specs.Step.{BothStand}
@@ -10,7 +9,3 @@ use Rattle.filters.proofs.failed_rows.round.Given as goal
 abbrev pub invariant-loop-c : goal.invariant-loop-c
 invariant-loop-c l =
     Turns failed (λ x G. BothStand G l.d x) (four_rows l.place) l.d l.place l.initial.part l.part l.struck l.c
-
-abbrev pub decreases-loop-c : goal.decreases-loop-c
-decreases-loop-c l =
-    l.place.k - l.c

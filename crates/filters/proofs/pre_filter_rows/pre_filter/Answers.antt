@@ -1,3 +1,4 @@
+use Rattle.std.proofs.Common.{arith}
 use Rattle.filters.proofs.PreFilterRows.{layering_none, layering_more, layering_all}
 use Rattle.filters.proofs.pre_filter_rows.pre_filter.Goals as goal
 
@@ -12,4 +13,4 @@ loop-e-preserved c =
 
 pub returns : goal.returns
 returns c =
-    layering_all c.requires c.loop-e.invariant c.loop-e-test.false c.is_open.ensures
+    layering_all c.requires c.loop-e.invariant (omega arith) c.is_open.ensures

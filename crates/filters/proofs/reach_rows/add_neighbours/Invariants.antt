@@ -1,5 +1,5 @@
 -- `filters::reach_rows::add_neighbours` meets its contract. The invariant: the rows of the members below v are added.
-use Prim.Native.Nat.{◌*◌, ◌-◌}
+use Rattle.std.proofs.Common.{◌*◌, ◌-◌}
 use Rattle.filters.proofs.ReachRows.{Uniting}
 use Rattle.filters.proofs.reach_rows.add_neighbours.Given as goal
 

@@ -1,5 +1,4 @@
 -- `filters::unit_rows::pass` meets its contract. The invariant: the classes below c were visited, one after another.
-use Prim.Native.Nat.{◌-◌}
 use Rattle.cliques.specs.Words.{two_rows}
 use Rattle.filters.specs.Step.{Calm}
 use Rattle.filters.specs.Unit.{unit}
@@ -9,7 +8,3 @@ use Rattle.filters.proofs.unit_rows.pass.Given as goal
 abbrev pub invariant-loop-c : goal.invariant-loop-c
 invariant-loop-c l =
     Turns unit (λ x G. Calm G l.d x) (two_rows l.place) l.d l.place l.initial.part l.part l.struck l.c
-
-abbrev pub decreases-loop-c : goal.decreases-loop-c
-decreases-loop-c l =
-    l.place.k - l.c

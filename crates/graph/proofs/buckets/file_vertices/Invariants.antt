@@ -1,12 +1,7 @@
 -- `graph::buckets::file_vertices` meets its contract. The invariant: the vertices below v are filed.
-use Prim.Native.Nat.{◌-◌, ◌≤◌}
 use Rattle.graph.specs.Buckets.{Filed}
 use Rattle.graph.proofs.buckets.file_vertices.Given as goal
 
 abbrev pub invariant-loop-v : goal.invariant-loop-v
 invariant-loop-v l =
-    (l.v ≤ l.n) × Filed l.fs l.v l.wide l.table
-
-abbrev pub decreases-loop-v : goal.decreases-loop-v
-decreases-loop-v l =
-    l.n - l.v
+    Filed l.fs l.v l.wide l.table

@@ -1,16 +1,8 @@
 -- `graph::buckets::separate_all` meets its contract. The invariant: the rows up to u are without their own frequencies.
-use Prim.Native.Nat.{◌-◌, ◌≤◌}
-use lib.ListN.{length}
-use Rattle.rule_strikes.specs.Rows.{RowsFit}
 use Rattle.rule_strikes.specs.Strikes.{Rewritten}
 use Rattle.graph.specs.Buckets.{separated}
 use Rattle.graph.proofs.buckets.separate_all.Given as goal
 
 abbrev pub invariant-loop-u : goal.invariant-loop-u
 invariant-loop-u l =
-    (l.u ≤ l.place.n) × RowsFit l.place.w l.place.graph l.place.n (length l.part)
-    × Rewritten (separated l.fs l.place.n) 0 l.u l.place.w l.place.graph l.place.n l.initial.part l.part
-
-abbrev pub decreases-loop-u : goal.decreases-loop-u
-decreases-loop-u l =
-    l.place.n - l.u
+    Rewritten (separated l.fs l.place.n) 0 l.u l.place.w l.place.graph l.place.n l.initial.part l.part

@@ -1,5 +1,5 @@
 -- `graph::buckets::separate_rows` meets its contract.
-use native.Mathlib.Omega.{arith}
+use Rattle.std.proofs.Common.{arith}
 use Rattle.graph.proofs.Filing.{filed_none}
 use Rattle.graph.proofs.buckets.separate_rows.Goals as goal
 
@@ -7,8 +7,3 @@ pub file_vertices-requires : goal.file_vertices-requires
 file_vertices-requires c =
     let h = c.requires in
     (filed_none _ _, omega arith, omega arith, h.1)
-
-pub separate_all-requires : goal.separate_all-requires
-separate_all-requires c =
-    let h = c.requires in
-    (c.file_vertices.ensures, omega arith, omega arith, h.1, h.2)

@@ -1,5 +1,5 @@
 -- `graph::buckets::strike_bucket` meets its contract. The invariant is `Walking`.
-use Prim.Native.Nat.{◌-◌}
+use Rattle.std.proofs.Common.{◌-◌}
 use Rattle.graph.proofs.Filing.{Walking}
 use Rattle.graph.proofs.buckets.strike_bucket.Given as goal
 

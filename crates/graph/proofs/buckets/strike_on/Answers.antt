@@ -1,5 +1,5 @@
 -- `graph::buckets::strike_on` meets its contract.
-use borrow.Author.Tests.{eq-eqb, ne_eqb}
+use Rattle.std.proofs.Common.{eq-eqb, ne_eqb}
 use Rattle.graph.specs.Buckets.{sharing}
 use Rattle.rule_strikes.proofs.Spans.{struck_yes, struck_no}
 use Rattle.graph.proofs.buckets.strike_on.Goals as goal

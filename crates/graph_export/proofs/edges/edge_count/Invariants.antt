@@ -5,8 +5,4 @@ use Rattle.graph_export.proofs.edges.edge_count.Given as goal
 
 abbrev pub invariant-loop-u : goal.invariant-loop-u
 invariant-loop-u l =
-    (l.u ≤ l.n) × (l.m ≤ l.u * l.n) × EdgesCounted l.n 0 (l.u * l.n) l.part l.m
-
-abbrev pub decreases-loop-u : goal.decreases-loop-u
-decreases-loop-u l =
-    l.n - l.u
+    (l.m ≤ l.u * l.n) × EdgesCounted l.n 0 (l.u * l.n) l.part l.m

@@ -1,5 +1,4 @@
-use borrow.Author.Rules.{rules}
-use native.Mathlib.Omega.{arith}
+use Rattle.std.proofs.Common.{rules, arith}
 use Rattle.graph_export.proofs.Walks.{at_neighbour, lines_start, lines_more, lines_to_lem}
 use Rattle.graph_export.proofs.texts.put_row.Goals as goal
 
@@ -10,10 +9,10 @@ next_neighbour-v-requires c =
 pub loop-v-init : goal.loop-v-init
 loop-v-init c =
     let L = c.next_neighbour-v.ensures in
-    (at_neighbour (omega arith) L, lines_start (omega arith) _ _ L)
+    (at_neighbour (omega arith) L, lines_start (omega arith) _ L)
 
-pub put_edge-end-requires : goal.put_edge-end-requires
-put_edge-end-requires c =
+pub put_edge-requires : goal.put_edge-requires
+put_edge-requires c =
     let l = c.loop-v in
     let P = c.requires in
     (omega (arith, P.0.few), omega (arith, P.0.few), omega (arith, l.invariant.1.few, P.2))
@@ -34,13 +33,8 @@ loop-v-preserved c =
     let L = c.next_neighbour-v-in-loop-v.ensures in
     let I = c.loop-v.invariant in (
       at_neighbour (omega (arith, I.0.above)) L,
-      lines_more (omega arith) I.1 I.0 c.loop-v-test.true c.put_edge-end.ensures.0
-          c.put_edge-end.ensures.1 L,
+      lines_more (omega arith) I.1 I.0 c.loop-v-test.true c.put_edge.ensures.0 c.put_edge.ensures.1 L,
     )
-
-pub shape_of-out : goal.shape_of-out
-shape_of-out c =
-    c.loop-v.invariant.1.size
 
 pub returns : goal.returns
 returns c =

@@ -1,102 +1,59 @@
-use borrow.Author.Rules.{rules}
-use native.Mathlib.Omega.{arith}
-use mathlib.Core.Path.{refl, ◌∙◌}
-use Prim.Native.Nat.{◌+◌, ◌*◌, ◌<◌}
-use lib.ListN.{drop}
-use Rattle.dimacs.specs.Reading.{edge_line}
-use Rattle.graph_read.proofs.OneLine.{LineRead, told_line}
-use Rattle.graph_read.proofs.EdgeLines.{code_few, so_far_none, bad_edge, so_far_more}
-use Rattle.graph_read.proofs.EdgeLines.{edges_done}
+use Rattle.std.proofs.Common.{refl, arith, rules}
+use Rattle.graph_read.proofs.OneLine.{told_line}
+use Rattle.graph_read.proofs.EdgeLines.{code_few, so_far_none, bad_edge, so_far_more, edges_done}
 use Rattle.graph_read.proofs.edges.read_edges.Goals as goal
 
 pub loop-place-init : goal.loop-place-init
 loop-place-init c =
-    (search rules, search rules, refl, λ cs t. so_far_none cs _ _ c.requires.2)
+    (search rules, search rules, λ cs t. so_far_none cs _ _ c.requires.2)
 
-pub read_edge-e-requires : goal.read_edge-e-requires
-read_edge-e-requires c =
-    (search rules, c.requires.1.few)
+pub returns-in_err-e : goal.returns-in_err-e
+returns-in_err-e c cs t =
+    rw c.from_residual.ensures
+    (bad_edge (c.loop-place.invariant.2 cs t) c.args.n _ t.vertices (omega arith) c.in_err-e.was c.read_edge.ensures)
 
-pub returns-in_default : goal.returns-in_default
-returns-in_default c cs t =
-    let s = c.args in
-    let q = c.in_default.is in
-    bad_edge (c.loop-place.invariant.3 cs t) s.n _ t.vertices (omega arith) q c.read_edge-e.ensures
-
-pub is_clash-requires : goal.is_clash-requires
-is_clash-requires c =
-    let line : (let s = c.args in
-    LineRead s.text.now c.loop-place.place s.n (edge_line s.n (drop c.loop-place.place s.text.now))
-    c.in-Edge.u c.in-Edge.v c.in-Edge.next) =
-    told_line c.in-Edge.is c.read_edge-e.ensures in
-    let e = line in
+pub is_clash-clash-requires : goal.is_clash-clash-requires
+is_clash-clash-requires c =
+    let e = told_line c.in_ok-e.was c.read_edge.ensures in
     let f = c.requires.1 in
-    (record { few = f.few; places = f.places; room = c.loop-place.invariant.2 ∙ f.room }, e.first, e.second)
+    (record { few = f.few; places = f.places; room = search rules }, e.first, e.second)
 
-pub overflow_mul-u : goal.overflow_mul-u
-overflow_mul-u c =
-    let code : (c.in-Edge.u * c.args.n + c.in-Edge.v < 262144) =
-    let line : (let s = c.args in
-    LineRead s.text.now c.loop-place.place s.n (edge_line s.n (drop c.loop-place.place s.text.now))
-    c.in-Edge.u c.in-Edge.v c.in-Edge.next) =
-    told_line c.in-Edge.is c.read_edge-e.ensures in
-    code_few c.args.n _ _ c.requires.1.few line.first line.second in
-    omega (arith, code)
+pub overflow_mul-e : goal.overflow_mul-e
+overflow_mul-e c =
+    let e = told_line c.in_ok-e.was c.read_edge.ensures in
+    omega (arith, code_few c.args.n _ _ c.requires.1.few e.first e.second)
 
-pub overflow_add-u : goal.overflow_add-u
-overflow_add-u c =
-    let code : (c.in-Edge.u * c.args.n + c.in-Edge.v < 262144) =
-    let line : (let s = c.args in
-    LineRead s.text.now c.loop-place.place s.n (edge_line s.n (drop c.loop-place.place s.text.now))
-    c.in-Edge.u c.in-Edge.v c.in-Edge.next) =
-    told_line c.in-Edge.is c.read_edge-e.ensures in
-    code_few c.args.n _ _ c.requires.1.few line.first line.second in
-    omega (arith, code)
+pub overflow_add-e : goal.overflow_add-e
+overflow_add-e c =
+    let e = told_line c.in_ok-e.was c.read_edge.ensures in
+    omega (arith, code_few c.args.n _ _ c.requires.1.few e.first e.second)
 
 pub insert-requires : goal.insert-requires
 insert-requires c =
-    let code : (c.in-Edge.u * c.args.n + c.in-Edge.v < 262144) =
-    let line : (let s = c.args in
-    LineRead s.text.now c.loop-place.place s.n (edge_line s.n (drop c.loop-place.place s.text.now))
-    c.in-Edge.u c.in-Edge.v c.in-Edge.next) =
-    told_line c.in-Edge.is c.read_edge-e.ensures in
-    code_few c.args.n _ _ c.requires.1.few line.first line.second in
-    omega (arith, code, c.loop-place.invariant.2, c.requires.1.room)
+    let e = told_line c.in_ok-e.was c.read_edge.ensures in
+    omega (arith, code_few c.args.n _ _ c.requires.1.few e.first e.second, c.requires.1.room)
 
 pub overflow_add-count : goal.overflow_add-count
 overflow_add-count c =
-    let line : (let s = c.args in
-    LineRead s.text.now c.loop-place.place s.n (edge_line s.n (drop c.loop-place.place s.text.now))
-    c.in-Edge.u c.in-Edge.v c.in-Edge.next) =
-    told_line c.in-Edge.is c.read_edge-e.ensures in
-    let e = line in
-    omega (arith, e.later, e.within, c.loop-place.invariant.1)
+    let e = told_line c.in_ok-e.was c.read_edge.ensures in
+    omega (arith, e.later, e.within)
 
 pub loop-place-smaller : goal.loop-place-smaller
 loop-place-smaller c =
-    let line : (let s = c.args in
-    LineRead s.text.now c.loop-place.place s.n (edge_line s.n (drop c.loop-place.place s.text.now))
-    c.in-Edge.u c.in-Edge.v c.in-Edge.next) =
-    told_line c.in-Edge.is c.read_edge-e.ensures in
-    let e = line in
+    let e = told_line c.in_ok-e.was c.read_edge.ensures in
     omega (arith, e.later, e.within)
 
 pub loop-place-preserved : goal.loop-place-preserved
 loop-place-preserved c =
-    let line : (let s = c.args in
-    LineRead s.text.now c.loop-place.place s.n (edge_line s.n (drop c.loop-place.place s.text.now))
-    c.in-Edge.u c.in-Edge.v c.in-Edge.next) =
-    told_line c.in-Edge.is c.read_edge-e.ensures in
-    let e = line in
+    let e = told_line c.in_ok-e.was c.read_edge.ensures in
     let l = c.loop-place in (
       e.within,
       omega (arith, e.later, l.invariant.1),
-      search rules,
-      λ cs t. so_far_more (l.invariant.3 cs t) t.vertices (omega arith) e (c.is_clash.ensures cs t)
-          c.either-clash.ensures c.insert.ensures,
+      λ cs t. so_far_more (l.invariant.2 cs t) t.vertices (omega arith) e (c.is_clash-clash.ensures cs t)
+          refl c.insert.ensures,
     )
 
 pub returns : goal.returns
 returns c cs t =
     let l = c.loop-place in
-    edges_done (l.invariant.3 cs t) _ refl (omega arith) (omega (arith, l.invariant.1, l.invariant.0))
+    edges_done (l.invariant.2 cs t) _ refl (omega arith) (omega (arith, l.invariant.1, l.invariant.0))

@@ -1,8 +1,5 @@
 -- `graph_read::edges::read_edges` meets its contract: the lines before `place` are read.
-use mathlib.Core.List.{List}
-use mathlib.Core.Path.{◌≡◌}
-use Prim.Native.Nat.{ℕ, ◌+◌, ◌-◌, ◌≤◌}
-use lib.ListN.{length}
+use Rattle.std.proofs.Common.{List, ℕ, ◌+◌, ◌-◌, ◌≤◌, length}
 use Rattle.vset.specs.Words.{has}
 use Rattle.graph_read.specs.Graphs.{LayersTold}
 use Rattle.graph_read.proofs.EdgeLines.{SoFar}
@@ -11,7 +8,7 @@ use Rattle.graph_read.proofs.edges.read_edges.Given as goal
 abbrev pub invariant-loop-place : goal.invariant-loop-place
 invariant-loop-place l =
     (l.place ≤ length l.text)
-    × (l.count + l.count ≤ l.place) × (length l.codes ≡ length l.initial.codes)
+    × (l.count + l.count ≤ l.place)
     × ((cs : List ℕ) → LayersTold cs l.n l.layers → SoFar cs l.text l.at l.place l.count (has l.codes) l.clash)
 
 abbrev pub decreases-loop-place : goal.decreases-loop-place

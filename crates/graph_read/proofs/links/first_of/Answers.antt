@@ -1,26 +1,21 @@
-use borrow.Author.Rules.{rules}
-use native.Mathlib.Omega.{arith}
-use mathlib.Core.Path.{◌≡◌, ap, ◌∙◌}
-use Rattle.dimacs.specs.Reading.{first_of}
+use Rattle.std.proofs.Common.{ap, ◌∙◌, ◌+◌, get_or-take, length-take-le, arith}
 use Rattle.graph_read.proofs.Firsts.{first_none, first_more, first_fits}
 use Rattle.graph_read.proofs.links.first_of.Goals as goal
 
-pub loop-i-init : goal.loop-i-init
-loop-i-init c =
-    (search rules, first_none _)
+pub loop-count-init : goal.loop-count-init
+loop-count-init c =
+    first_none _
 
 pub overflow_add-first : goal.overflow_add-first
 overflow_add-first c =
-    let l = c.loop-i in
-    let fits = first_fits c.args.counts.now c.args.k l.i l.first (omega arith) l.invariant.1 in
-    omega (arith, c.requires.0.few)
+    let i = c.loop-count.count-index in
+    let n = length-take-le c.args.l c.args.counts.now (omega (arith, c.requires.0.room)) in
+    let e = get_or-take c.args.l c.args.counts.now i 0 (omega arith) in
+    omega (arith, c.requires.0.few, first_fits c.args.counts.now c.args.k i c.loop-count.first (omega arith) c.loop-count.invariant)
 
-pub loop-i-preserved : goal.loop-i-preserved
-loop-i-preserved c =
-    let l = c.loop-i in
-    (omega arith, first_more c.args.counts.now c.args.k l.i l.first (omega arith) l.invariant.1)
-
-pub returns : goal.returns
-returns c =
-    let e : c.loop-i.i ≡ c.args.l = omega arith in
-    c.loop-i.invariant.1 ∙ ap (first_of _) e
+pub loop-count-preserved : goal.loop-count-preserved
+loop-count-preserved c =
+    let i = c.loop-count.count-index in
+    let n = length-take-le c.args.l c.args.counts.now (omega (arith, c.requires.0.room)) in
+    let e = get_or-take c.args.l c.args.counts.now i 0 (omega arith) in
+    ap (λ x. c.loop-count.first + x) e ∙ first_more c.args.counts.now c.args.k i c.loop-count.first (omega arith) c.loop-count.invariant

@@ -1,15 +1,8 @@
 -- `graph_read::links::layer_by` meets its contract: the links from l on start past v.
-use mathlib.Core.Path.{◌≡◌}
-use Prim.Native.Nat.{◌≤◌}
-use lib.ListN.{take}
+use Rattle.std.proofs.Common.{◌≡◌, take}
 use Rattle.dimacs.specs.Reading.{first_of, layer_by}
 use Rattle.graph_read.proofs.links.layer_by.Given as goal
 
 abbrev pub invariant-loop-l : goal.invariant-loop-l
 invariant-loop-l l =
-    (l.l ≤ l.k) × (l.first ≡ first_of (take l.k l.counts) l.l)
-    × (layer_by (take l.k l.counts) l.k l.v ≡ layer_by (take l.k l.counts) l.l l.v)
-
-abbrev pub decreases-loop-l : goal.decreases-loop-l
-decreases-loop-l l =
-    l.l
+    (l.first ≡ first_of (take l.k l.counts) l.l) × (layer_by (take l.k l.counts) l.k l.v ≡ layer_by (take l.k l.counts) l.l l.v)

@@ -1,39 +1,24 @@
-use native.Mathlib.Omega.{arith}
-use lib.ListN.{length-set}
+use Rattle.std.proofs.Common.{arith}
 use Rattle.graph_read.proofs.Firsts.{first_none, first_more, first_fits}
 use Rattle.graph_sheet.proofs.Pairing.{firsts_none, firsts_more, firsts_all}
 use Rattle.graph_sheet.proofs.joins.keep_firsts.Goals as goal
 
 pub loop-l-init : goal.loop-l-init
 loop-l-init c =
-    (omega arith, c.requires.1, first_none _, firsts_none _ _)
-
-pub bounds-firsts-l : goal.bounds-firsts-l
-bounds-firsts-l c =
-    omega arith
-
-pub bounds-counts-l : goal.bounds-counts-l
-bounds-counts-l c =
-    omega arith
+    (first_none _, firsts_none _ _)
 
 pub overflow_add-first : goal.overflow_add-first
 overflow_add-first c =
     let l = c.loop-l in
-    omega (arith, first_fits c.args.counts.now c.args.s.links l.l l.first (omega arith) l.invariant.2)
+    omega (arith, first_fits c.args.counts.now c.args.s.links l.l l.first (omega arith) l.invariant.0)
 
 pub loop-l-preserved : goal.loop-l-preserved
 loop-l-preserved c =
     let l = c.loop-l in (
-      omega arith,
-      simp length-set l.invariant.1,
-      first_more c.args.counts.now c.args.s.links l.l l.first (omega arith) l.invariant.2,
-      firsts_more l.l l.first (omega arith) l.invariant.3 l.invariant.2,
+      first_more c.args.counts.now c.args.s.links l.l l.first (omega arith) l.invariant.0,
+      firsts_more l.l l.first (omega arith) l.invariant.1 l.invariant.0,
     )
-
-pub shape_of-firsts : goal.shape_of-firsts
-shape_of-firsts c =
-    omega arith
 
 pub returns : goal.returns
 returns c =
-    firsts_all c.loop-l.l _ (omega arith) c.loop-l.invariant.3
+    firsts_all c.loop-l.l _ (omega arith) c.loop-l.invariant.1

@@ -1,6 +1,5 @@
 -- `graph_sheet::joins::row_count` meets its contract: the vertices before position y are counted.
 use mathlib.Core.Path.{◌≡◌}
-use Prim.Native.Nat.{◌-◌, ◌≤◌}
 use Rattle.sets.specs.Below.{count}
 use Rattle.vset.specs.Words.{has}
 use Rattle.dimacs.specs.Made.{joined}
@@ -9,8 +8,4 @@ use Rattle.graph_sheet.proofs.joins.row_count.Given as goal
 
 abbrev pub invariant-loop-y : goal.invariant-loop-y
 invariant-loop-y l =
-    (l.y ≤ l.w) × (l.m ≡ count l.y (joined_in (joined l.n (has l.codes)) l.p l.x))
-
-abbrev pub decreases-loop-y : goal.decreases-loop-y
-decreases-loop-y l =
-    l.w - l.y
+    l.m ≡ count l.y (joined_in (joined l.n (has l.codes)) l.p l.x)

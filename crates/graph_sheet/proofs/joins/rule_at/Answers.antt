@@ -39,4 +39,4 @@ returns c =
     let k = links_are c.requires.0 in
     let T = c.two_links-p.ensures in
     let P = c.pair_count-pairs.ensures in
-    rule_counted _ _ c.args.s.links z k c.if-a-b.false T P _ refl
+    rw c.then_some.ensures (rule_counted _ _ c.args.s.links z k c.if-a-b.false T P _ refl)

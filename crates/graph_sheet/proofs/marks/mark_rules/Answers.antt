@@ -1,6 +1,4 @@
-use borrow.Author.Rules.{rules}
-use native.Mathlib.Omega.{arith}
-use lib.ListN.{length-set}
+use Rattle.std.proofs.Common.{arith}
 use Rattle.graph_sheet.proofs.Pairing.{square_few, links_are, code_below}
 use Rattle.graph_sheet.proofs.Ruling.{tally_none, tally_more}
 use Rattle.graph_sheet.proofs.Marking.{marked_none, marked_more, marked_all}
@@ -12,7 +10,7 @@ overflow_mul-most c =
 
 pub loop-z-init : goal.loop-z-init
 loop-z-init c =
-    (omega arith, search rules, marked_none _ _ _, tally_none _ _)
+    (marked_none _ _ _, tally_none _ _)
 
 pub mark_of-requires : goal.mark_of-requires
 mark_of-requires c =
@@ -20,17 +18,13 @@ mark_of-requires c =
 
 pub bounds-marks-z : goal.bounds-marks-z
 bounds-marks-z c =
-    omega (arith, square_few c.requires.0, c.loop-z.invariant.1)
+    omega (arith, square_few c.requires.0)
 
 pub tallied-t-requires : goal.tallied-t-requires
 tallied-t-requires c =
-    let T = c.loop-z.invariant.3 in
+    let T = c.loop-z.invariant.1 in
     let few = square_few c.requires.0 in
     (omega (arith, few, T.rules_few), omega (arith, few, T.pairs_few), c.rule_at-r.ensures.few)
-
-pub overflow_add-z : goal.overflow_add-z
-overflow_add-z c =
-    omega (arith, square_few c.requires.0)
 
 pub loop-z-preserved : goal.loop-z-preserved
 loop-z-preserved c =
@@ -38,18 +32,12 @@ loop-z-preserved c =
     let R = c.rule_at-r.ensures in
     let few = square_few c.requires.0 in
     let h = code_below c.requires.0 l.z (omega arith) in (
-      omega arith,
-      simp length-set l.invariant.1,
-      marked_more _ _ l.z _ (omega (arith, few, l.invariant.1)) l.invariant.2 R c.mark_of.ensures,
-      tally_more _ _ l.z h l.invariant.3 R c.tallied-t.ensures,
+      marked_more _ _ l.z _ (omega (arith, few)) l.invariant.0 R c.mark_of.ensures,
+      tally_more _ _ l.z h l.invariant.1 R c.tallied-t.ensures,
     )
-
-pub shape_of-marks : goal.shape_of-marks
-shape_of-marks c =
-    c.loop-z.invariant.1
 
 pub returns : goal.returns
 returns c =
     let l = c.loop-z in
     let G = c.requires.0 in
-    marked_all _ _ _ l.z (links_are G) G.graph.links.links (omega arith) l.invariant.2 l.invariant.3
+    marked_all _ _ _ l.z (links_are G) G.graph.links.links (omega arith) l.invariant.0 l.invariant.1

@@ -1,7 +1,4 @@
 -- `graph_sheet::marks::mark_rules` meets its contract: the codes below z are marked and counted.
-use mathlib.Core.Path.{◌≡◌}
-use Prim.Native.Nat.{◌-◌, ◌≤◌}
-use lib.ListN.{length}
 use Rattle.graph_sheet.specs.Pairs.{counts_in, adjacent_in}
 use Rattle.graph_sheet.specs.Marks.{MarkedTo}
 use Rattle.graph_sheet.proofs.Ruling.{Tally}
@@ -9,9 +6,5 @@ use Rattle.graph_sheet.proofs.marks.mark_rules.Given as goal
 
 abbrev pub invariant-loop-z : goal.invariant-loop-z
 invariant-loop-z l =
-    (l.z ≤ l.most) × (length l.marks ≡ length l.initial.marks) × MarkedTo (counts_in l.counts l.s) (adjacent_in l.codes l.s) l.marks l.z
+    MarkedTo (counts_in l.counts l.s) (adjacent_in l.codes l.s) l.marks l.z
     × Tally (counts_in l.counts l.s) (adjacent_in l.codes l.s) l.z l.t
-
-abbrev pub decreases-loop-z : goal.decreases-loop-z
-decreases-loop-z l =
-    l.most - l.z

@@ -28,7 +28,7 @@ returns-then-not-is_joined c =
     let x = c.args.x in
     let y = c.args.y in
     let joins = in_joined E n p x y (omega arith) (omega arith) c.is_joined.ensures in
-    (pair_no (joined n E) p x y _ _ joins c.if-not-is_joined.true, omega arith)
+    (pair_no (joined n E) p x y _ joins c.if-not-is_joined.true, omega arith)
 
 pub put_halves-requires : goal.put_halves-requires
 put_halves-requires c =
@@ -46,4 +46,4 @@ returns c =
     let w = c.put_halves.ensures in
     let joins = in_joined E n p x y (omega arith) (omega arith) c.is_joined.ensures in
     let yes = c.if-not-is_joined.false in
-    (pair_yes (joined n E) p x y joins yes w, omega (arith, w.end))
+    (pair_yes (joined n E) p x y joins yes w, omega (arith, w.wrote.end))

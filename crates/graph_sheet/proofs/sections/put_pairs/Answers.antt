@@ -12,36 +12,31 @@ overflow_mul-most c =
 
 pub loop-z-init : goal.loop-z-init
 loop-z-init c =
-    (omega arith, omega arith, rows_none _ _ _ _)
+    (omega arith, rows_none _ _ _)
 
 pub rule_in-r-requires : goal.rule_in-r-requires
 rule_in-r-requires c =
     omega (arith, c.requires.1.room)
 
-pub put_pairs_at-end-requires : goal.put_pairs_at-end-requires
-put_pairs_at-end-requires c =
+pub put_pairs_at-requires : goal.put_pairs_at-requires
+put_pairs_at-requires c =
     let l = c.loop-z in (
       c.requires.0,
       omega arith,
       told_by _ _ l.z c.requires.1 (omega arith) c.rule_in-r.ensures,
-      omega (arith, l.invariant.1, square_few c.requires.0),
+      omega (arith, l.invariant.0, square_few c.requires.0),
     )
-
-pub overflow_add-z : goal.overflow_add-z
-overflow_add-z c =
-    omega (arith, square_few c.requires.0)
 
 pub loop-z-preserved : goal.loop-z-preserved
 loop-z-preserved c =
     let l = c.loop-z in
-    let p = c.put_pairs_at-end.ensures in
+    let p = c.put_pairs_at.ensures in
     let h = code_below c.requires.0 l.z (omega arith) in (
-      omega arith,
-      omega (arith, p.1, l.invariant.1),
-      rows_more _ _ l.z _ refl l.invariant.2 (pairs_row_put _ _ l.z h p.0),
+      omega (arith, p.1, l.invariant.0),
+      rows_more _ _ l.z _ refl l.invariant.1 (pairs_row_put _ _ l.z h p.0),
     )
 
 pub returns : goal.returns
 returns c =
     let l = c.loop-z in
-    pairs_put _ _ _ (links_are c.requires.0) (rows_done _ _ l.z _ (omega arith) l.invariant.2)
+    pairs_put _ _ _ (links_are c.requires.0) (rows_done _ _ l.z _ (omega arith) l.invariant.1)

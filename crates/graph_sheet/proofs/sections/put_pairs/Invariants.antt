@@ -1,8 +1,8 @@
 -- `graph_sheet::sections::put_pairs` meets its contract: the rows of the codes below z are put.
-use Prim.Native.Nat.{◌+◌, ◌*◌, ◌-◌, ◌≤◌}
+use Prim.Native.Nat.{◌+◌, ◌*◌, ◌≤◌}
 use Rattle.dimacs.specs.Lists.{join_to}
 use Rattle.dimacs.specs.Made.{rule_pair_rows}
-use Rattle.output.specs.Output.{Wrote}
+use Rattle.output.specs.Puts.{Puts}
 use Rattle.graph_sheet.specs.Pairs.{counts_in, adjacent_in}
 use Rattle.graph_sheet.proofs.Ruling.{place_of}
 use Rattle.graph_sheet.proofs.sections.put_pairs.Given as goal
@@ -11,8 +11,4 @@ abbrev pub invariant-loop-z : goal.invariant-loop-z
 invariant-loop-z l =
     let cs = counts_in l.counts l.s in
     let adj = adjacent_in l.codes l.s in
-    (l.z ≤ l.most) × (l.end ≤ l.at + 1048576 * l.z) × Wrote (join_to (place_of cs adj l.z) (rule_pair_rows cs adj)) l.initial.out l.at l.out l.end
-
-abbrev pub decreases-loop-z : goal.decreases-loop-z
-decreases-loop-z l =
-    l.most - l.z
+    (l.out.end ≤ l.initial.out.end + 1048576 * l.z) × Puts (join_to (place_of cs adj l.z) (rule_pair_rows cs adj)) l.initial.out l.out

@@ -1,18 +1,17 @@
 -- `graph_sheet::sections::put_pairs_at` meets its contract.
-use native.Mathlib.Omega.{arith}
-use borrow.Author.Tests.{not-true, not-false}
+use Rattle.std.proofs.Common.{ap, ◌∙◌, is_some, unwrap_or, arith}
 use Rattle.graph_sheet.proofs.Pairing.{links_are, first_below, second_below, codes_fit, among}
 use Rattle.graph_sheet.proofs.PairWriting.{pairs_at_no, pairs_at_none, pairs_at_yes}
 use Rattle.graph_sheet.proofs.sections.put_pairs_at.Goals as goal
 
-pub returns-then-not-r : goal.returns-then-not-r
-returns-then-not-r c =
-    (pairs_at_no _ _ c.args.z c.requires.2 _ _ (not-true c.args.r.ruled c.if-not-r.true), omega arith)
+pub returns-in_default : goal.returns-in_default
+returns-in_default c =
+    (pairs_at_no _ _ c.args.z c.requires.2 _ (ap is_some c.in_default.is), omega arith)
 
-pub returns-then-r-eq0 : goal.returns-then-r-eq0
-returns-then-r-eq0 c =
-    let yes = not-false c.args.r.ruled c.if-not-r.false in
-    (pairs_at_none _ _ c.args.z c.requires.2 _ _ yes c.if-r-eq0.true, omega arith)
+pub returns-then-pairs-eq0 : goal.returns-then-pairs-eq0
+returns-then-pairs-eq0 c =
+    let none = ap (λ o. unwrap_or o 0) c.in-Some.is ∙ c.if-pairs-eq0.true in
+    (pairs_at_none _ _ c.args.z c.requires.2 _ (ap is_some c.in-Some.is) none, omega arith)
 
 pub nonzero_div-z : goal.nonzero_div-z
 nonzero_div-z c =
@@ -39,5 +38,4 @@ returns c =
     let z = c.args.z in
     let p = c.put_joined.ensures in
     let k = links_are c.requires.0 in
-    let yes = not-false c.args.r.ruled c.if-not-r.false in
-    (pairs_at_yes _ _ z c.requires.2 _ k yes c.two_links-p.ensures p.0, p.1)
+    (pairs_at_yes _ _ z c.requires.2 _ k (ap is_some c.in-Some.is) c.two_links-p.ensures p.0, p.1)

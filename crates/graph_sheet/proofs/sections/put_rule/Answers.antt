@@ -5,10 +5,10 @@ use Rattle.rule_sections.specs.Rules.{most_khz}
 use Rattle.graph_sheet.proofs.Writing.{choice_few, rule_put}
 use Rattle.graph_sheet.proofs.sections.put_rule.Goals as goal
 
-pub put_halves-third-requires : goal.put_halves-third-requires
-put_halves-third-requires c =
+pub put_halves-requires-2 : goal.put_halves-requires-2
+put_halves-requires-2 c =
     let few = choice_few (eqb c.args.pairs 0) 1 3 3 (omega arith) (omega arith) in
-    (omega (arith, c.kind_of-kind.ensures, few), omega arith, omega (arith, c.put_halves-second.ensures.end))
+    (omega (arith, c.kind_of-kind.ensures, few), omega arith, omega (arith, c.put_halves.ensures.wrote.end))
 
 pub overflow_cast-value : goal.overflow_cast-value
 overflow_cast-value c =
@@ -17,13 +17,13 @@ overflow_cast-value c =
 
 pub put_full-requires : goal.put_full-requires
 put_full-requires c =
-    omega (arith, c.put_halves-second.ensures.end, c.put_halves-third.ensures.end, c.requires.4)
+    omega (arith, c.put_halves.ensures.wrote.end, c.put_halves-2.ensures.wrote.end, c.requires.4)
 
 pub returns : goal.returns
 returns c =
     rule_put _ _ _ _ _ _
     c.kind_of-kind.ensures
     c.value_of-value.ensures
-    c.put_halves-second.ensures
-    c.put_halves-third.ensures
+    c.put_halves.ensures
+    c.put_halves-2.ensures
     c.put_full.ensures

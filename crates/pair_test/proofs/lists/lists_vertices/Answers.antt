@@ -1,6 +1,5 @@
 -- `pair_test::lists::lists_vertices` meets its contract.
-use mathlib.Core.Path.{◌≡◌}
-use native.Mathlib.Omega.{arith}
+use Rattle.std.proofs.Common.{◌≡◌, arith}
 use Rattle.sheet_rows.specs.Rows.{link_first, rule_a, rule_b}
 use Rattle.sheet.specs.Sheet.{rule_part}
 use Rattle.pair_test.proofs.Laws.{row_bounds}

@@ -1,6 +1,5 @@
 -- `pair_test::pairs::is_of` meets its contract.
-use native.Mathlib.Omega.{arith}
-use borrow.Author.Tests.{lt-ltb, le-ltb}
+use Rattle.std.proofs.Common.{arith, lt-ltb, le-ltb}
 use Rattle.sheet.specs.Sheet.{q_of}
 use Rattle.pair_test.specs.Pairs.{of_links}
 use Rattle.pair_test.proofs.Laws.{parts_of}

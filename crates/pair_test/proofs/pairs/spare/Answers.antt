@@ -1,6 +1,5 @@
 -- The lower of the two links comes first; turned round, the test is the same.
-use mathlib.Core.Path.{sym, ◌∙◌}
-use native.Mathlib.Omega.{arith}
+use Rattle.std.proofs.Common.{sym, ◌∙◌, arith}
 use Rattle.spacing.proofs.Spacing.{read_back}
 use Rattle.pair_test.proofs.Pairing.{spare_turned}
 use Rattle.pair_test.proofs.pairs.spare.Goals as goal

@@ -1,8 +1,5 @@
 -- The row that is sought decides: it is of the two links, or none is.
-use mathlib.Core.Path.{◌≡◌, sym, ◌∙◌}
-use lib.Dec.{ltb}
-use native.Mathlib.Omega.{arith}
-use borrow.Author.Tests.{ltb-true, lt-ltb}
+use Rattle.std.proofs.Common.{◌≡◌, sym, ◌∙◌, ltb, arith, ltb-true, lt-ltb}
 use Rattle.sets.proofs.Tests.{and_l, and_r, is_false, and_in, clash}
 use Rattle.sheet.specs.Sheet.{freq_part}
 use Rattle.spacing.specs.Spacing.{distance}

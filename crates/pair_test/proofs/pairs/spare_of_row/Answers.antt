@@ -1,6 +1,5 @@
 -- A rule of kind 3 looks at its list alone, and no other looks at it.
-use mathlib.Core.Path.{◌∙◌}
-use native.Mathlib.Omega.{arith}
+use Rattle.std.proofs.Common.{◌∙◌, arith}
 use Rattle.spacing.specs.Spacing.{distance}
 use Rattle.pair_test.specs.Pairs.{spare_row}
 use Rattle.pair_test.proofs.Laws.{parts_of, row_bounds, widths_small}

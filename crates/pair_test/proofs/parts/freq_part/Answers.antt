@@ -3,6 +3,4 @@ use Rattle.sheet_rows.proofs.Rows.{part_from}
 use Rattle.pair_test.proofs.parts.freq_part.Goals as goal
 
 pub returns : goal.returns
-returns c =
-    let at = c.freqs_at-at in
-    rw (← at.ensures.0) (part_from c.args.s.now at.result)
+returns c = rw (← c.freqs_at.ensures.0) (part_from c.args.s.now c.freqs_at.result)

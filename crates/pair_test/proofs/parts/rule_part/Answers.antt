@@ -3,6 +3,4 @@ use Rattle.sheet_rows.proofs.Rows.{part_from}
 use Rattle.pair_test.proofs.parts.rule_part.Goals as goal
 
 pub returns : goal.returns
-returns c =
-    let at = c.rules_at-at in
-    rw (← at.ensures.0) (part_from c.args.s.now at.result)
+returns c = rw (← c.rules_at.ensures.0) (part_from c.args.s.now c.rules_at.result)

@@ -1,6 +1,4 @@
-use mathlib.Core.Path.{◌≡◌, sym, ◌∙◌}
-use mathlib.Core.Bool.{false}
-use native.Mathlib.Omega.{arith}
+use Rattle.std.proofs.Common.{◌≡◌, sym, ◌∙◌, arith}
 use Rattle.pair_test.proofs.Laws.{parts_of}
 use Rattle.pair_test.proofs.Pairing.{none_before, before_upto}
 use Rattle.pair_test.proofs.seek.find_rule.Goals as goal

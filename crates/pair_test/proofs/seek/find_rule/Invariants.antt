@@ -1,7 +1,5 @@
 -- The loop's invariant: the rules before `low` come before the links, and the one at `high`, if there is one, does not.
-use Prim.Native.Nat.{◌-◌, ◌≤◌, ◌<◌}
-use mathlib.Core.Path.{◌≡◌}
-use mathlib.Core.Bool.{false}
+use Rattle.std.proofs.Common.{◌-◌, ◌≤◌, ◌<◌, ◌≡◌, false}
 use Rattle.sheet_rows.specs.Rows.{rule_a, rule_b}
 use Rattle.rule_sections.specs.Rules.{before}
 use Rattle.sheet.specs.Sheet.{q_of, rule_part}

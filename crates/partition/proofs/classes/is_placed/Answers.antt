@@ -1,32 +1,16 @@
-use Prim.Native.Nat.{◌≤◌, ◌<◌}
-use mathlib.Core.Bool.{true}
-use mathlib.Core.Path.{sym}
-use native.Mathlib.Omega.{arith}
-use borrow.Author.Tests.{lt-ltb, le-ltb}
-use Rattle.sets.proofs.Tests.{and_in}
-use Rattle.sets.proofs.Below.{all_none, all_step, all_false, loop_ends}
+-- `partition::classes::is_placed` meets its contract: `all` has looked at the first n classes.
+use Rattle.std.proofs.Common.{◌↔◌, ◌<◌, IsTrue, EachIndex, slice_index, rules, take, ltb, lt-ltb, ltb-true, get_or-take, length-take-le, arith}
+use Rattle.sets.proofs.Tests.{iff}
+use Rattle.sets.proofs.Below.{all_in, all_out}
 use Rattle.partition.specs.Partition.{class_of}
 use Rattle.partition.proofs.classes.is_placed.Goals as goal
 
-pub loop-v-init : goal.loop-v-init
-loop-v-init c =
-    (omega arith, all_none _)
-
-pub overflow_cast-cls : goal.overflow_cast-cls
-overflow_cast-cls c =
-    omega (arith, c.type_inv.cls c.loop-v.v)
-
-pub returns-then-cls-v : goal.returns-then-cls-v
-returns-then-cls-v c =
-    let v = c.loop-v.v in
-    let h : c.args.k ≤ class_of c.args.cls.now v = omega arith in
-    sym (all_false _ _ v c.loop-v-test.true (le-ltb _ _ h))
-
-pub loop-v-preserved : goal.loop-v-preserved
-loop-v-preserved c =
-    let h : class_of c.args.cls.now c.loop-v.v < c.args.k = omega arith in
-    (omega arith, rw all_step (and_in c.loop-v.invariant.1 (lt-ltb _ _ h)))
-
 pub returns : goal.returns
 returns c =
-    sym (loop_ends _ _ _ c.loop-v.invariant.0 c.loop-v-test.false c.loop-v.invariant.1)
+    let a = c.args in
+    let d : IsTrue c.all.result ↔ EachIndex (take a.n a.cls.now) (λ v. slice_index (take a.n a.cls.now) v < a.k) = search rules in
+    let e = length-take-le a.n a.cls.now c.requires in
+    iff _ _
+    (λ t. all_in a.n _ (λ v l. lt-ltb _ _ (rw (get_or-take a.n a.cls.now v 0 l) at (d.0 t v (omega arith)))))
+    (λ t. d.1 (λ v l. let m : v < a.n = omega arith in
+    rw (get_or-take a.n a.cls.now v 0 m) (ltb-true _ _ (all_out a.n (λ v. ltb (class_of a.cls.now v) a.k) t v m))))

@@ -1,10 +1,6 @@
 -- `partition::masks::add_member` meets its contract. One of the k rows is written, or none where there is no such class.
-use Rattle.partition.proofs.Members.{marked, unmarked}
+use Rattle.partition.proofs.Members.{marked}
 use Rattle.partition.proofs.masks.add_member.Goals as goal
-
-pub returns-then-c-k : goal.returns-then-c-k
-returns-then-c-k c =
-    unmarked c.if-c-k.true
 
 pub returns : goal.returns
 returns c =

@@ -1,7 +1,6 @@
 -- `rule_sections::pair_rows::pair_ok` meets its contract.
+use Rattle.std.proofs.Common.{eq-eqb, ne_eqb, arith}
 use mathlib.Core.Bool.{and-true}
-use borrow.Author.Tests.{eq-eqb, ne_eqb}
-use native.Mathlib.Omega.{arith}
 use Rattle.rule_sections.specs.Rules.{pair_ok}
 use Rattle.rule_sections.proofs.pair_rows.pair_ok.Goals as goal
 

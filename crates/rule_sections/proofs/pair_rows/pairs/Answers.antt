@@ -1,6 +1,4 @@
-use borrow.Author.Rules.{rules}
-use mathlib.Core.Path.{sym}
-use mathlib.Core.Bool.{true}
+use Rattle.std.proofs.Common.{rules, sym}
 use Rattle.sets.proofs.Below.{all_none, loop_ends, loop_goes_on, loop_stops}
 use Rattle.rule_sections.specs.Rules.{pairs_ok}
 use Rattle.rule_sections.proofs.pair_rows.pairs.Goals as goal
@@ -8,10 +6,6 @@ use Rattle.rule_sections.proofs.pair_rows.pairs.Goals as goal
 pub loop-j-init : goal.loop-j-init
 loop-j-init c =
     search (rules, all_none)
-
-pub rule_pairs-requires : goal.rule_pairs-requires
-rule_pairs-requires c =
-    record { q = c.args.q; among = c.loop-j-test.true; read = c.requires }
 
 pub returns-then-not-rule_pairs : goal.returns-then-not-rule_pairs
 unfolding pairs_ok

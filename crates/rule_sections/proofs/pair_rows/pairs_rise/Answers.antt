@@ -1,5 +1,4 @@
-use borrow.Author.Rules.{rules}
-use mathlib.Core.Path.{sym}
+use Rattle.std.proofs.Common.{rules, sym}
 use Rattle.sets.proofs.Below.{all_none, loop_ends, loop_goes_on, loop_stops}
 use Rattle.rule_sections.proofs.pair_rows.pairs_rise.Goals as goal
 

@@ -1,5 +1,5 @@
 -- `rule_sections::rule_rows::kind_ok` meets its contract.
-use borrow.Author.Tests.{ne_eqb}
+use Rattle.std.proofs.Common.{ne_eqb}
 use Rattle.rule_sections.specs.Rules.{kind_ok}
 use Rattle.rule_sections.proofs.rule_rows.kind_ok.Goals as goal
 

@@ -1,6 +1,5 @@
 -- `rule_sections::rule_rows::listed` meets its contract.
-use borrow.Author.Tests.{ne_eqb}
-use native.Mathlib.Omega.{arith}
+use Rattle.std.proofs.Common.{ne_eqb, arith}
 use Rattle.rule_sections.specs.Rules.{listed as listed_by}
 use Rattle.rule_sections.proofs.rule_rows.listed.Goals as goal
 

@@ -1,5 +1,5 @@
 -- `rule_sections::rule_rows::plain_ok` meets its contract.
-use mathlib.Core.Path.{refl}
+use Rattle.std.proofs.Common.{refl}
 use Rattle.rule_sections.specs.Rules.{plain_ok}
 use Rattle.rule_sections.proofs.rule_rows.plain_ok.Goals as goal
 

@@ -1,5 +1,5 @@
 -- `rule_sections::rule_rows::rule_rises` meets its contract.
-use borrow.Author.Tests.{ne_eqb}
+use Rattle.std.proofs.Common.{ne_eqb}
 use Rattle.rule_sections.specs.Rules.{rule_rises}
 use Rattle.rule_sections.proofs.rule_rows.rule_rises.Goals as goal
 

@@ -1,23 +1,10 @@
-use borrow.Author.Rules.{rules}
-use mathlib.Core.Path.{◌≡◌}
-use native.Mathlib.Omega.{arith}
 use Rattle.rule_strikes.proofs.Spans.{added_none, added_more}
 use Rattle.rule_strikes.proofs.span.add_span.Goals as goal
 
 pub loop-v-init : goal.loop-v-init
 loop-v-init c =
-    (search rules, search rules, added_none _ _ _ _)
+    added_none _ _ _ _
 
 pub loop-v-preserved : goal.loop-v-preserved
 loop-v-preserved c =
-    let l = c.loop-v in
-    (search rules, search rules, added_more _ _ l.invariant.0 l.invariant.2 c.insert.ensures)
-
-pub shape_of-part : goal.shape_of-part
-shape_of-part c =
-    c.loop-v.invariant.2.rest.len
-
-pub returns : goal.returns
-returns c =
-    let e : c.loop-v.v ≡ c.args.end = omega arith in
-    rw e at c.loop-v.invariant.2
+    added_more _ _ c.loop-v.auto.v c.loop-v.invariant c.insert.ensures

@@ -1,5 +1,4 @@
 -- `rule_strikes::span::add_span` meets its contract. The invariant: the row has the stretch up to v.
-use Prim.Native.Nat.{◌-◌, ◌≤◌}
 use Rattle.sets.specs.Sets.{◌∪◌}
 use Rattle.rows.specs.Rows.{set_at, Put}
 use Rattle.rule_strikes.specs.Strikes.{stretch}
@@ -7,9 +6,4 @@ use Rattle.rule_strikes.proofs.span.add_span.Given as goal
 
 abbrev pub invariant-loop-v : goal.invariant-loop-v
 invariant-loop-v l =
-    (l.first ≤ l.v) × (l.v ≤ l.end)
-    × Put (set_at l.initial.part l.w l.to ∪ stretch l.first l.v) l.w l.to l.initial.part l.part
-
-abbrev pub decreases-loop-v : goal.decreases-loop-v
-decreases-loop-v l =
-    l.end - l.v
+    Put (set_at l.initial.part l.w l.to ∪ stretch l.first l.v) l.w l.to l.initial.part l.part

@@ -1,5 +1,5 @@
 -- `rule_strikes::strike::add_partner` meets its contract.
-use mathlib.Core.Path.{sym, ◌∙◌}
+use Rattle.std.proofs.Common.{sym, ◌∙◌}
 use Rattle.rule_strikes.proofs.Strikes.{partner_put, partner_left}
 use Rattle.rule_strikes.proofs.strike.add_partner.Goals as goal
 

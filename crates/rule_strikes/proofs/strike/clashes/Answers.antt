@@ -1,19 +1,9 @@
 -- `rule_strikes::strike::clashes` meets its contract.
-use mathlib.Core.Path.{ap, ◌∙◌}
-use mathlib.Core.Bool.{not}
-use native.Mathlib.Omega.{arith}
+use Rattle.std.proofs.Common.{ap, ◌∙◌, not, arith}
 use Rattle.spacing.specs.Spacing.{distance, zero_or_more}
 use Rattle.spacing.proofs.Spacing.{read_back}
 use Rattle.rule_strikes.specs.Strikes.{clashing}
 use Rattle.rule_strikes.proofs.strike.clashes.Goals as goal
-
-pub overflow_cast-value : goal.overflow_cast-value
-overflow_cast-value c =
-    record { fits = c.requires.1.0 }
-
-pub overflow_cast-widths : goal.overflow_cast-widths
-overflow_cast-widths c =
-    record { fits = c.requires.1.1 }
 
 pub overflow_cast-apart : goal.overflow_cast-apart
 unfolding distance

@@ -1,21 +1,9 @@
 -- `rule_strikes::strike::rule_row` meets its contract. By kind, the row is written or struck.
-use native.Mathlib.Omega.{arith}
 use Rattle.rows.specs.Rows.{set_at}
 use Rattle.rule_strikes.specs.Strikes.{under_rule}
 use Rattle.rule_strikes.proofs.Spans.{put_as}
 use Rattle.rule_strikes.proofs.Strikes.{ruled_listed, ruled_plain, row_written}
 use Rattle.rule_strikes.proofs.strike.rule_row.Goals as goal
-
-pub write_listed-requires : goal.write_listed-requires
-write_listed-requires c =
-    let f = c.requires.1 in
-    let b = c.row_at-row.ensures in (
-      c.requires.0.pairs c.if-kind-eq3.true,
-      c.requires.0.order,
-      omega (arith, c.requires.0.other),
-      f.small,
-      omega arith,
-    )
 
 pub returns-then-kind-eq3 : goal.returns-then-kind-eq3
 returns-then-kind-eq3 c =
@@ -25,19 +13,6 @@ returns-then-kind-eq3 c =
     (put_as (ruled_listed a.fs.now a.ps.now a.s a.u
     (set_at a.part.now a.place.w c.row_at-row.result) t (c.requires.0.pairs t))
     c.write_listed.ensures)
-
-pub strike_near-requires : goal.strike_near-requires
-strike_near-requires c =
-    let f = c.requires.1 in
-    let g = c.requires.0 in
-    let b = c.row_at-row.ensures in (
-      omega arith,
-      g.order,
-      omega arith,
-      omega (arith, g.freqs, g.other),
-      g.plain c.if-kind-eq3.false,
-      c.freq.ensures.1,
-    )
 
 pub returns : goal.returns
 returns c =

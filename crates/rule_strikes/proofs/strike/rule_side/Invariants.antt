@@ -1,15 +1,7 @@
 -- `rule_strikes::strike::rule_side` meets its contract. The invariant: the link's rows up to u are under the rule.
-use Prim.Native.Nat.{◌-◌, ◌≤◌}
-use lib.ListN.{length}
-use Rattle.rule_strikes.specs.Rows.{RowsFit}
 use Rattle.rule_strikes.specs.Strikes.{under_rule, Rewritten}
 use Rattle.rule_strikes.proofs.strike.rule_side.Given as goal
 
 abbrev pub invariant-loop-u : goal.invariant-loop-u
 invariant-loop-u l =
-    (l.s.from ≤ l.u) × (l.u ≤ l.s.upto) × RowsFit l.place.w l.place.graph l.place.n (length l.part)
-    × Rewritten (under_rule l.fs l.ps l.s) l.s.from l.u l.place.w l.place.graph l.place.n l.initial.part l.part
-
-abbrev pub decreases-loop-u : goal.decreases-loop-u
-decreases-loop-u l =
-    l.s.upto - l.u
+    Rewritten (under_rule l.fs l.ps l.s) l.s.from l.u l.place.w l.place.graph l.place.n l.initial.part l.part

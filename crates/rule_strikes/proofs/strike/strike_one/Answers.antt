@@ -1,5 +1,5 @@
 -- `rule_strikes::strike::strike_one` meets its contract.
-use mathlib.Core.Path.{sym, ◌∙◌}
+use Rattle.std.proofs.Common.{sym, ◌∙◌}
 use Rattle.rule_strikes.proofs.Spans.{struck_yes, struck_no}
 use Rattle.rule_strikes.proofs.strike.strike_one.Goals as goal
 

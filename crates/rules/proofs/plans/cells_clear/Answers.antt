@@ -1,36 +1,27 @@
-use borrow.Author.Rules.{rules}
-use mathlib.Core.Path.{◌≡◌, sym, ap, ◌∙◌}
-use mathlib.Core.Bool.{true, not}
-use native.Mathlib.Omega.{arith}
-use Rattle.sets.proofs.Below.{all_none, all_step, all_false, loop_ends}
+use Rattle.std.proofs.Common.{◌≡◌, ◌<◌, ℕ, List, length, get_or, take, sym, ap, ◌∙◌, arith, length-take, not}
+use Rattle.std.proofs.lemmas.List.{get_or-take}
 use Rattle.sets.proofs.Tests.{and_in}
-use Rattle.channels.specs.Channels.{on_air}
-use Rattle.rules.specs.Plans.{cells_of, clear}
+use Rattle.sets.proofs.Below.{all_none, all_step, all_false}
+use Rattle.rules.specs.Plans.{clear}
 use Rattle.rules.proofs.plans.cells_clear.Goals as goal
 
-pub loop-l-init : goal.loop-l-init
-loop-l-init c =
-    (omega arith, all_none _)
+-- a number of the first n is the list's own
+first_own : (n i : ℕ) (xs : List ℕ) → i < length (take n xs) → get_or (take n xs) i 0 ≡ get_or xs i 0
+first_own n i xs h = get_or-take n xs i 0 (omega (arith, length-take n xs))
+
+pub loop-cell-init : goal.loop-cell-init
+loop-cell-init c = all_none _
 
 pub returns-then-is_on_air : goal.returns-then-is_on_air
 unfolding clear
 returns-then-is_on_air c =
-    let told : let a = c.args in
-    clear a.channels.now (cells_of a.cells.now) c.loop-l.l ≡ not c.is_on_air.result =
-    let a = c.args in
-    ap not (sym (c.is_on_air.ensures ∙ ap (on_air a.channels.now) c.wide.ensures)) in
-    let t = c.loop-l-test.true in
-    sym (all_false _ _ _ t (told ∙ ap not c.if-is_on_air.true))
+    let i = c.loop-cell.cell-index in
+    let low : i < c.args.links = omega (arith, length-take {A = ℕ}) in
+    let on = rw (first_own _ _ _ c.loop-cell-test.true) at c.is_on_air.ensures in
+    sym (all_false _ _ i low (ap not (sym on ∙ c.if-is_on_air.true)))
 
-pub loop-l-preserved : goal.loop-l-preserved
+pub loop-cell-preserved : goal.loop-cell-preserved
 unfolding clear
-loop-l-preserved c =
-    let told : let a = c.args in
-    clear a.channels.now (cells_of a.cells.now) c.loop-l.l ≡ not c.is_on_air.result =
-    let a = c.args in
-    ap not (sym (c.is_on_air.ensures ∙ ap (on_air a.channels.now) c.wide.ensures)) in
-    (omega arith, all_step c.loop-l.l _ ∙ and_in c.loop-l.invariant.1 (told ∙ ap not c.if-is_on_air.false))
-
-pub returns : goal.returns
-returns c =
-    search (rules, loop_ends, sym)
+loop-cell-preserved c =
+    let on = rw (first_own _ _ _ c.loop-cell-test.true) at c.is_on_air.ensures in
+    all_step _ _ ∙ and_in c.loop-cell.invariant (ap not (sym on ∙ c.if-is_on_air.false))

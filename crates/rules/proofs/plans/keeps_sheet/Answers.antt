@@ -1,5 +1,5 @@
 -- `rules::plans::keeps_sheet` meets its contract.
-use mathlib.Core.Path.{◌∙◌, sym}
+use Rattle.std.proofs.Common.{◌∙◌, sym}
 use Rattle.rules.specs.Plans.{keeps, keeps_sheet}
 use Rattle.rules.proofs.plans.keeps_sheet.Goals as goal
 

@@ -1,6 +1,5 @@
 -- `rules::plans::pair_kept` meets its contract.
-use mathlib.Core.Path.{ap, ◌∙◌}
-use native.Mathlib.Omega.{arith}
+use Rattle.std.proofs.Common.{ap, ◌∙◌, arith}
 use Rattle.spacing.specs.Spacing.{zero_or_more}
 use Rattle.spacing.proofs.Spacing.{read_back}
 use Rattle.rules.specs.Plans.{spare_taken, pair_kept}

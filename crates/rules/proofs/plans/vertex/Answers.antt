@@ -1,6 +1,5 @@
 -- `rules::plans::vertex` meets its contract.
-use mathlib.Core.Path.{◌≡◌}
-use native.Mathlib.Omega.{arith}
+use Rattle.std.proofs.Common.{◌≡◌, arith}
 use Rattle.sheet_rows.specs.Rows.{link_count, link_first}
 use Rattle.sheet.specs.Sheet.{freq_part}
 use Rattle.rules.specs.Plans.{place_of, vertex_of}

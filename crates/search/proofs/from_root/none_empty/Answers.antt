@@ -1,25 +1,21 @@
 -- `search::from_root::none_empty` meets its contract.
-use mathlib.Core.Path.{sym, ap, ◌∙◌}
-use mathlib.Core.Bool.{Bool, ◌&&◌}
+use Rattle.std.proofs.Common.{Bool, ◌&&◌, sym, ap, ◌∙◌}
 use Rattle.cliques.specs.Graph.{is_open, layered}
 use Rattle.cliques.specs.Words.{own_row}
 use Rattle.search.proofs.from_root.none_empty.Goals as goal
 
-pub returns-then-not-is_open : goal.returns-then-not-is_open
-returns-then-not-is_open c =
-    let o = c.is_open in
+pub returns-then-is_open : goal.returns-then-is_open
+returns-then-is_open c =
     let L = own_row c.args.place c.args.part.now in
     record {
-      answer = λ G lay N M. sym (ap (λ (b : Bool). b && is_open G 0 L)
-          (sym (o.ensures (layered G lay) M) ∙ c.if-not-is_open.true));
+      answer = λ G lay N M. c.is_open-then-is_open.ensures G N ∙ sym (ap (λ (b : Bool). b && is_open G 0 L)
+          (sym (c.is_open.ensures (layered G lay) M) ∙ c.if-is_open.true));
     }
 
-pub returns : goal.returns
-returns c =
-    let o = c.is_open in
-    let a = c.args in
-    let L = own_row a.place a.part.now in
+pub returns-else-is_open : goal.returns-else-is_open
+returns-else-is_open c =
+    let L = own_row c.args.place c.args.part.now in
     record {
-      answer = λ G lay N M. c.is_open-2.ensures G N ∙ sym (ap (λ (b : Bool). b && is_open G 0 L)
-          (sym (o.ensures (layered G lay) M) ∙ c.if-not-is_open.false));
+      answer = λ G lay N M. c.if-is_open.false ∙ sym (ap (λ (b : Bool). b && is_open G 0 L)
+          (sym (c.is_open.ensures (layered G lay) M) ∙ c.if-is_open.false));
     }

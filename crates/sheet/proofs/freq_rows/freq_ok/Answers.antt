@@ -1,6 +1,6 @@
 -- `sheet::freq_rows::freq_ok` meets its contract.
+use Rattle.std.proofs.Common.{eq-eqb, ne_eqb}
 use mathlib.Core.Bool.{and-true}
-use borrow.Author.Tests.{eq-eqb, ne_eqb}
 use Rattle.sheet.specs.Sheet.{freq_ok}
 use Rattle.sheet.proofs.freq_rows.freq_ok.Goals as goal
 

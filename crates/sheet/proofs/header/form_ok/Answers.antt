@@ -1,5 +1,6 @@
 -- `sheet::header::form_ok` meets its contract.
-use borrow.Author.Tests.{le-leb, lt-leb}
+use Rattle.std.proofs.Common.{le-leb}
+use borrow.Author.Tests.{lt-leb}
 use Rattle.sheet.specs.Refusal.{form_ok}
 use Rattle.sheet.proofs.header.form_ok.Goals as goal
 

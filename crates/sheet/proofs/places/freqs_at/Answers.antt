@@ -1,7 +1,5 @@
 -- Link rows have at most 8 bytes.
-use borrow.Author.Rules.{rules}
-use Prim.Native.Nat.{◌*◌, ◌≤◌}
-use native.Mathlib.Omega.{arith}
+use Rattle.std.proofs.Common.{rules, ◌*◌, ◌≤◌, arith}
 use Rattle.sheet_rows.proofs.Rows.{rows_small}
 use Rattle.sheet.proofs.places.freqs_at.Goals as goal
 

@@ -1,6 +1,5 @@
 -- `part_from` takes the code's parts to the sheet's sections.
-use native.Mathlib.Omega.{arith}
-use lib.ListN.{length-drop}
+use Rattle.std.proofs.Common.{arith, length-drop}
 use Rattle.sheet.specs.Sheet.{n_of}
 use Rattle.sheet_rows.proofs.Rows.{part_from}
 use Rattle.sheet.proofs.sections.freq_section.Goals as goal

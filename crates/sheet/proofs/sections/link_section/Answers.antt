@@ -1,6 +1,5 @@
 -- `part_from` takes the code's part to the sheet's section.
-use native.Mathlib.Omega.{arith}
-use lib.ListN.{length-drop}
+use Rattle.std.proofs.Common.{arith, length-drop}
 use Rattle.sheet_rows.proofs.Rows.{part_from}
 use Rattle.sheet.specs.Sheet.{links_ok}
 use Rattle.sheet.proofs.sections.link_section.Goals as goal

@@ -1,7 +1,5 @@
 -- `part_from` takes the code's parts to the sheet's sections.
-use borrow.Author.Rules.{rules}
-use native.Mathlib.Omega.{arith}
-use lib.ListN.{length-drop}
+use Rattle.std.proofs.Common.{arith, length-drop}
 use Rattle.sheet.specs.Sheet.{k_of, t_of}
 use Rattle.sheet_rows.proofs.Rows.{part_from}
 use Rattle.sheet.proofs.sections.pair_section.Goals as goal

@@ -1,5 +1,4 @@
 -- `part_from` takes the code's part to the sheet's section.
-use borrow.Author.Rules.{rules}
 use Rattle.sheet_rows.proofs.Rows.{part_from}
 use Rattle.sheet.proofs.sections.rule_section.Goals as goal
 

@@ -1,31 +1,18 @@
-use borrow.Author.Rules.{rules}
-use mathlib.Core.Path.{sym}
-use native.Mathlib.Omega.{arith}
+use Rattle.std.proofs.Common.{rules, sym}
 use Rattle.sets.proofs.Below.{all_none, loop_ends, loop_goes_on, loop_stops}
-use Rattle.sheet_rows.proofs.Rows.{row_inside}
 use Rattle.sheet.specs.Sheet.{width_rows_ok}
 use Rattle.sheet.proofs.width_rows.widths.Goals as goal
 
 pub loop-l-init : goal.loop-l-init
-loop-l-init c =
-    search (rules, all_none)
-
-pub width_ok-requires : goal.width_ok-requires
-width_ok-requires c =
-    let a = c.args in
-    let r = row_inside a.bytes c.loop-l.l a.k (omega arith) in
-    search rules
+loop-l-init c = search (rules, all_none)
 
 pub returns-then-not-width_ok : goal.returns-then-not-width_ok
 unfolding width_rows_ok
-returns-then-not-width_ok c =
-    search (rules, loop_stops, sym)
+returns-then-not-width_ok c = search (rules, loop_stops, sym)
 
 pub loop-l-preserved : goal.loop-l-preserved
-loop-l-preserved c =
-    search (rules, loop_goes_on)
+loop-l-preserved c = search (rules, loop_goes_on)
 
 pub returns : goal.returns
 unfolding width_rows_ok
-returns c =
-    search (rules, loop_ends, sym)
+returns c = search (rules, loop_ends, sym)

@@ -1,31 +1,22 @@
 -- The code's numbers are those of the table, whichever the form.
-use mathlib.Core.Path.{◌≡◌, refl}
-use mathlib.Core.Bool.{Bool, true, false, cond, ◌||◌}
-use borrow.Author.Tests.{ne_eqb}
-use lib.Dec.{eqb}
-use Rattle.sheet_rows.specs.declared.Form.{Form}
+use Rattle.std.proofs.Common.{arith, ne_eqb}
 use Rattle.sheet_rows.specs.Form.{form_by}
 use Rattle.sheet_rows.proofs.forms.form_by.Goals as goal
 
--- form 1, or none
-known : (b : Bool) → ◌≡◌ {A = Form} (record { known = b || false; bytes = 4; links = 64; freqs = 512; words = 8192 })
-    (cond b (record { known = true; bytes = 4; links = 64; freqs = 512; words = 8192 })
-    (record { known = false; bytes = 4; links = 64; freqs = 512; words = 8192 }))
-known true = refl
-known false = refl
-
-pub returns-then-number-eq3 : goal.returns-then-number-eq3
+pub returns-in-1 : goal.returns-in-1
 unfolding form_by
-returns-then-number-eq3 c =
-    rw c.if-number-eq3.true
+returns-in-1 c = rw c.in-1.is
 
-pub returns-then-number-eq2 : goal.returns-then-number-eq2
+pub returns-in-2 : goal.returns-in-2
 unfolding form_by
-returns-then-number-eq2 c =
-    rw c.if-number-eq2.true
+returns-in-2 c = rw c.in-2.is
 
-pub returns-else-number-eq2 : goal.returns-else-number-eq2
+pub returns-in-3 : goal.returns-in-3
 unfolding form_by
-returns-else-number-eq2 c =
+returns-in-3 c = rw c.in-3.is
+
+pub returns-in_default : goal.returns-in_default
+unfolding form_by
+returns-in_default c =
     let n = c.args.number in
-    rw (ne_eqb n 3 c.if-number-eq3.false, ne_eqb n 2 c.if-number-eq2.false) (known (eqb n 1))
+    rw (ne_eqb n 1 (λ e. omega arith), ne_eqb n 2 (λ e. omega arith), ne_eqb n 3 (λ e. omega arith))

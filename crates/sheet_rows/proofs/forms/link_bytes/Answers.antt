@@ -1,6 +1,5 @@
 -- `sheet_rows::forms::link_bytes` meets its contract.
-use mathlib.Core.Path.{◌≡◌}
-use native.Mathlib.Omega.{arith}
+use Rattle.std.proofs.Common.{◌≡◌, arith}
 use Rattle.wire.specs.Fields.{le32}
 use Rattle.sheet_rows.specs.Rows.{link_bytes}
 use Rattle.sheet_rows.proofs.Rows.{form_small}

@@ -1,6 +1,5 @@
 -- The sheet's part is its link section, and `link_bytes` gives the length of its rows.
-use native.Mathlib.Omega.{arith}
-use lib.ListN.{length-drop}
+use Rattle.std.proofs.Common.{arith, length-drop}
 use Rattle.sheet_rows.specs.Rows.{link_width}
 use Rattle.sheet_rows.proofs.Rows.{part_from}
 use Rattle.sheet_rows.proofs.links.link_width.Goals as goal

@@ -1,6 +1,6 @@
 -- `sheet_rows::links::row_width` meets its contract.
-use borrow.Author.Tests.{le-leb, lt-leb}
-use native.Mathlib.Omega.{arith}
+use Rattle.std.proofs.Common.{le-leb, arith}
+use borrow.Author.Tests.{lt-leb}
 use Rattle.sheet_rows.proofs.links.row_width.Goals as goal
 
 pub returns-then-bytes-lt8 : goal.returns-then-bytes-lt8

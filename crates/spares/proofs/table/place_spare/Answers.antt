@@ -1,9 +1,5 @@
 -- `spares::table::place_spare` meets its contract: row and column of a place are links, and the number is an `i32`.
-use Prim.Native.Nat.{◌<◌}
-use mathlib.Core.Path.{◌≡◌, refl, sym, ap, subst, ◌∙◌}
-use native.Mathlib.Nat.{mod-lt}
-use native.Mathlib.Omega.{arith}
-use lib.IntN.{ℤ}
+use Rattle.std.proofs.Common.{◌<◌, ◌≡◌, refl, sym, ap, subst, ◌∙◌, mod-lt, arith, ℤ}
 use mir.Syntax.{w32, w64}
 use mir.Val.{SFits, to_z, of_z}
 use mir.ValLaws.{to_z-of_z}

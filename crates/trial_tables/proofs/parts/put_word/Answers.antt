@@ -1,6 +1,0 @@
--- `put_word` writes one part after the other.
-use Rattle.trial_tables.proofs.parts.put_word.Goals as goal
-
-pub returns : goal.returns
-returns c =
-    cc
