@@ -87,7 +87,9 @@ fn read_edges(
     let mut clash = false;
     let mut place = at;
     while place < text.len() {
-        let e = read_edge(text, place, n)?;
+        let Some(e) = read_edge(text, place, n) else {
+            return None;
+        };
         clash |= is_clash(layers, n, codes, e.u, e.v);
         insert(codes, e.u * n + e.v);
         count += 1;

@@ -69,12 +69,16 @@ wrote_byte out at b h = record {
       ap (λ x. set x at b) q ∙ rw (← e) (over_more ws old b (omega arith));
 }
 
-pub past_byte : (out : List ℕ) (at b : ℕ) → length out ≤ at → Wrote (b ∷ []) out at out (at + 1)
-past_byte out at b h = record {
+-- a word past the end
+pub past_word : (out word : List ℕ) (at : ℕ) → length out ≤ at → Wrote word out at out (at + length word)
+past_word out word at h = record {
   end = refl;
   size = refl;
-  text = λ ws old e q. let l = over_length ws old out q in q ∙ sym (over_full ws (b ∷ []) old (omega arith));
+  text = λ ws old e q. let l = over_length ws old out q in q ∙ sym (over_full ws word old (omega arith));
 }
+
+pub past_byte : (out : List ℕ) (at b : ℕ) → length out ≤ at → Wrote (b ∷ []) out at out (at + 1)
+past_byte out at b h = past_word out (b ∷ []) at h
 
 -- a word that fits, in its place
 pub wrote_word : (out word : List ℕ) (at : ℕ) → at + length word ≤ length out

@@ -44,6 +44,10 @@ impl<'a> Output<'a> {
             self.end = end;
             return;
         }
+        if self.bytes.len() <= self.end {
+            self.end = end;
+            return;
+        }
         for byte in word {
             self.put_byte(*byte);
         }

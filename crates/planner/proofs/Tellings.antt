@@ -25,9 +25,9 @@ use Rattle.graph.specs.Graph.{link_of, unless_struck, layer, graph_of}
 use Rattle.graph.proofs.Graph.{links_of, layers_left}
 use Rattle.partition.specs.Partition.{class_of}
 use Rattle.search.specs.Tree.{Tree, found, no_plan}
-use Rattle.search.specs.Limit.{Answer, plan, none, stopped, answer, answer_number}
+use Rattle.search.specs.Limit.{Answer, plan, none, stopped, answer, answer_number, run_number}
 use Rattle.search.specs.Setting.{tree}
-use Rattle.search.specs.Walk.{run_number, Tells, Cells, Space}
+use Rattle.search.specs.Walk.{Tells, Cells, Space}
 use Rattle.search.specs.Searched.{Searched}
 use Rattle.search.specs.declared.RunOutcome.{RunOutcome}
 use Rattle.search.proofs.Tree.{All}

@@ -6,7 +6,7 @@ use Rattle.sheet.specs.Refusal.{cause_number, refusal}
 use Rattle.rules.specs.Job.{Job, job_of}
 use Rattle.rules.specs.Plans.{checked, check_number}
 use Rattle.rules.specs.declared.CheckRefusal.{CheckRefusal}
-use Rattle.search.specs.Walk.{run_number}
+use Rattle.search.specs.Limit.{run_number}
 use Rattle.search.specs.declared.RunOutcome.{RunOutcome}
 use Rattle.search.specs.declared.RunVerdict.{RunVerdict}
 use Rattle.zeros.specs.Zeros.{zeros}

@@ -6,7 +6,7 @@ use Rattle.sets.proofs.Below.{all_in, all_out, all_false, sum_in}
 use Rattle.sheet_rows.specs.Rows.{row_first, row_count, link_bytes, link_part, link_first, link_count}
 use Rattle.sheet.specs.Sheet.{link_row_ok, link_ok, link_rows_ok, links_ok, RowRead, row_read, row_if, link_row}
 use Rattle.sheet.specs.Sheet.{width_ok, width_rows_ok, widths_ok}
-use Rattle.sheet.specs.declared.link_rows.Row.{Row}
+use Rattle.sheet.specs.declared.Row.{Row}
 
 picked_link : (b : Bool) (f n : ℕ) (row : Row) → row_read (Some row) ≡ row_if b f n → (b ≡ true) × (n ≡ row.count)
 picked_link true f n row e = (refl, sym (ap (λ (r : RowRead). r.count) e))

@@ -7,7 +7,7 @@ use Rattle.wire.specs.Fields.{le32}
 use Rattle.sheet_rows.specs.Rows.{header_bytes, link_bytes, link_part, freq_bytes, rule_bytes, pair_bytes}
 use Rattle.sheet_rows.specs.Rows.{row_first, row_count, row_width, link_first, link_count, freq}
 use Rattle.rule_sections.specs.Rules.{most_khz, only}
-use Rattle.sheet.specs.declared.link_rows.Row.{Row}
+use Rattle.sheet.specs.declared.Row.{Row}
 
 -- "a 32-bit width in kHz, 1 to 20,000"
 abbrev pub most_width : ℕ

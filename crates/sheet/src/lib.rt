@@ -32,6 +32,13 @@ pub enum Cause {
     PairRow,
 }
 
+// A link row.
+#[derive(Clone, Copy)]
+struct Row {
+    first: usize,
+    count: usize,
+}
+
 // The paper's number for a cause.
 impl From<Cause> for u32 {
     ghost from_gives = { λ cause number. number ≡ cause_number cause };

@@ -5,15 +5,8 @@ ghost use Rattle.sheet_rows.specs.Rows.{HasRow};
 ghost use Rattle.sheet.specs.Sheet.{link_rows_ok, link_row, row_read};
 ghost use Rattle.sheet.specs.Refusal.{number_of, passing, unless};
 
-use crate::Cause;
+use crate::{Cause, Row};
 use sheet_rows::{row_count, row_first};
-
-// A link row.
-#[derive(Clone, Copy)]
-struct Row {
-    first: usize,
-    count: usize,
-}
 
 // Link row l, where it keeps its rule; `sum` is the sum of the earlier counts.
 fn link_row(p: &[u8], bytes: usize, l: usize, sum: usize) -> Option<Row>

@@ -31,10 +31,10 @@ fn says(
 ) -> io::Result<bool> {
     let got = heaviest_number(answer) as usize;
     Ok(
-        is_same(rt, "number of the heaviest job", got, number)?
+        is_same(rt, b"number of the heaviest job", got, number)?
             && is_same(
                 rt,
-                "length of the heaviest job",
+                b"length of the heaviest job",
                 answer.unwrap_or(0),
                 length,
             )?,
@@ -58,7 +58,7 @@ fn gives(
         says(rt, answer, number, wanted.len())?
             && is_same(
                 rt,
-                "first byte of the heaviest job that is another",
+                b"first byte of the heaviest job that is another",
                 at,
                 end,
             )?,

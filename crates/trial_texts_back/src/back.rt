@@ -18,7 +18,7 @@ fn has_cause(rt: &impl Print, kept: &[usize], number: usize) -> io::Result<bool>
         wanted == SKIP
             || is_same(
                 rt,
-                "number that the pairs ask of the import",
+                b"number that the pairs ask of the import",
                 number,
                 wanted,
             )?,

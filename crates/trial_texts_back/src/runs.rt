@@ -53,7 +53,7 @@ pub fn is_accepted(rt: &impl Print, kept: &mut [usize], sheet: &[u8]) -> io::Res
     ensures { length kept.new ≡ length kept.old }
 {
     let number = run(kept, sheet, setting_of(7));
-    Ok(100 <= number || is_same(rt, "number of the imported sheet's run", number, 100)?)
+    Ok(100 <= number || is_same(rt, b"number of the imported sheet's run", number, 100)?)
 }
 
 // Whether the runs of two sheets agree under setting p.
@@ -69,8 +69,8 @@ fn agree_under(
     let second = run(kept, other, setting_of(p));
     let got = get(kept, NODES);
     Ok(
-        is_same(rt, "number of the imported sheet's run", second, number)?
-            && is_same(rt, "nodes of the imported sheet's run", got, nodes)?,
+        is_same(rt, b"number of the imported sheet's run", second, number)?
+            && is_same(rt, b"nodes of the imported sheet's run", got, nodes)?,
     )
 }
 
@@ -80,7 +80,7 @@ pub fn runs_agree(rt: &impl Print, kept: &mut [usize], one: &[u8], other: &[u8])
 {
     for p in 0..32 {
         if !agree_under(rt, kept, one, other, p)? {
-            return is_same(rt, "first of 32 settings with another run", p, 32);
+            return is_same(rt, b"first of 32 settings with another run", p, 32);
         }
     }
     Ok(true)

@@ -33,9 +33,9 @@ fn says(
     let graph = exported.map_or(0, |lengths| lengths.graph);
     let counts = exported.map_or(0, |lengths| lengths.counts);
     Ok(
-        is_same(rt, "number of the export", got, number)?
-            && is_same(rt, "length of the graph text", graph, texts.graph.len())?
-            && is_same(rt, "length of the count text", counts, texts.counts.len())?,
+        is_same(rt, b"number of the export", got, number)?
+            && is_same(rt, b"length of the graph text", graph, texts.graph.len())?
+            && is_same(rt, b"length of the count text", counts, texts.counts.len())?,
     )
 }
 
@@ -55,8 +55,8 @@ pub fn exports(
     let exported = export_over(kept, sheet, graph, counts);
     Ok(
         says(rt, exported, number, wanted)?
-            && holds(rt, "in the graph text", graph, wanted.graph)?
-            && holds(rt, "in the count text", counts, wanted.counts)?,
+            && holds(rt, b"in the graph text", graph, wanted.graph)?
+            && holds(rt, b"in the count text", counts, wanted.counts)?,
     )
 }
 
@@ -72,10 +72,10 @@ fn exports_first(
     texts: Texts,
 ) -> io::Result<bool> {
     if graph.len() < g {
-        return is_same(rt, "room for the graph text", graph.len(), g);
+        return is_same(rt, b"room for the graph text", graph.len(), g);
     }
     if counts.len() < c {
-        return is_same(rt, "room for the count text", counts.len(), c);
+        return is_same(rt, b"room for the count text", counts.len(), c);
     }
     let is_short = g < texts.graph.len() || c < texts.counts.len();
     let number = if is_short { 15 } else { 0 };

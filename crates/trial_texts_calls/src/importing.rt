@@ -22,7 +22,7 @@ fn has_number(
     number: usize,
 ) -> io::Result<bool> {
     let got = import_number(imported) as usize;
-    is_same(rt, "number of the import", got, number)
+    is_same(rt, b"number of the import", got, number)
 }
 
 // Whether an import gives a number, and the sheet with zeros after it. For a refusal the sheet is empty.
@@ -40,8 +40,8 @@ pub fn imports(
     let length = imported.unwrap_or(0);
     Ok(
         has_number(rt, imported, number)?
-            && is_same(rt, "length of the imported sheet", length, wanted.len())?
-            && holds(rt, "in the imported sheet", sheet, wanted)?,
+            && is_same(rt, b"length of the imported sheet", length, wanted.len())?
+            && holds(rt, b"in the imported sheet", sheet, wanted)?,
     )
 }
 
@@ -55,7 +55,7 @@ fn imports_first(
     wanted: &[u8],
 ) -> io::Result<bool> {
     if sheet.len() < m {
-        return is_same(rt, "room for the imported sheet", sheet.len(), m);
+        return is_same(rt, b"room for the imported sheet", sheet.len(), m);
     }
     if m < wanted.len() {
         return imports(rt, kept, texts, &mut sheet[..m], 15, b"");
@@ -92,6 +92,9 @@ pub fn imported_length(
     ensures { length kept.new ≡ length kept.old }
 {
     let imported = import_over(kept, texts, sheet);
-    has_number(rt, imported, 0)?;
-    Ok(imported.ok())
+    Ok(if has_number(rt, imported, 0)? {
+        imported.ok()
+    } else {
+        None
+    })
 }

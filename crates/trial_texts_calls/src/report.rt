@@ -6,12 +6,14 @@ use trial_parts::get;
 use trial_texts_parts::first_difference;
 
 // Two numbers that differ.
-fn print_difference(rt: &impl Print, words: &str, got: usize, wanted: usize) -> io::Result<()> {
-    println!(rt; "difference: {words}: {got}, wanted {wanted}")
+fn print_difference(rt: &impl Print, words: &[u8], got: usize, wanted: usize) -> io::Result<()> {
+    print!(rt; "difference: ")?;
+    rt.write_all(words)?;
+    println!(rt; ": {got}, wanted {wanted}")
 }
 
 // Whether a number is the one wanted.
-pub fn is_same(rt: &impl Print, words: &str, got: usize, wanted: usize) -> io::Result<bool>
+pub fn is_same(rt: &impl Print, words: &[u8], got: usize, wanted: usize) -> io::Result<bool>
     ensures ok { IfOk result (λ r. r ≡ eqb got wanted) }
     ensures err { OnErr result (got ≢ wanted) }
 {
@@ -23,7 +25,7 @@ pub fn is_same(rt: &impl Print, words: &str, got: usize, wanted: usize) -> io::R
 }
 
 // Whether bytes are those wanted, and zero after them.
-pub fn holds(rt: &impl Print, words: &str, got: &[u8], wanted: &[u8]) -> io::Result<bool> {
+pub fn holds(rt: &impl Print, words: &[u8], got: &[u8], wanted: &[u8]) -> io::Result<bool> {
     let at = first_difference(got, wanted);
     if at == got.len() {
         return Ok(true);

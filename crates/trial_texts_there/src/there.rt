@@ -23,7 +23,7 @@ fn has_edges(rt: &impl Print, kept: &[usize], text: &[u8]) -> io::Result<bool> {
     let at = first_difference(first_bytes(text, length), &head);
     is_same(
         rt,
-        "place of another digit in the number of edges",
+        b"place of another digit in the number of edges",
         at,
         length,
     )

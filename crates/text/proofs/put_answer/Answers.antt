@@ -2,7 +2,7 @@
 use Rattle.std.proofs.Common.{◌≡◌, sym, ap, ◌∙◌, arith}
 use Rattle.sheet.specs.Sheet.{k_of}
 use Rattle.sheet.proofs.Accepted.{accepted}
-use Rattle.search.specs.Walk.{run_number}
+use Rattle.search.specs.Limit.{run_number}
 use Rattle.planner.specs.Planned.{verdict_number}
 use Rattle.planner.proofs.Found.{refusal_few}
 use Rattle.output.proofs.Puts.{puts_same}
